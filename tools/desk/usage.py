@@ -90,13 +90,13 @@ COMMANDS = {
         "NETLIST VECTORS RESULT",
         "NETLIST VECTORS",
         "RESULT",
-        "keeps the vectors of a list that tell faults apart, and writes their result; it searches for no further pattern",
+        "keeps the vectors of a list that distinguish faults, and writes their result; it searches for no further pattern",
     ),
     "topup": Command(
         "NETLIST VECTORS RESULT",
         "NETLIST VECTORS",
         "RESULT",
-        "keeps the vectors of a list that tell faults apart, and generates patterns and evidence for faults that they leave together",
+        "keeps the vectors of a list that distinguish faults, and generates patterns and evidence for faults that they leave together",
         BUDGETS[1:],
     ),
     "check": Command("NETLIST RESULT", "NETLIST RESULT", "", "says whether the result is valid for the netlist"),
@@ -153,7 +153,7 @@ COMMANDS = {
     ),
     "faults": Command("NETLIST", "NETLIST", "", "lists the faults: number, number of the root in the collapse, and name"),
     "sim": Command(
-        "NETLIST VECTORS", "NETLIST VECTORS", "", "prints what the circuit answers to each vector, and what each fault answers that answers otherwise"
+        "NETLIST VECTORS", "NETLIST VECTORS", "", "prints the circuit's answer to each vector, and the answer of each fault whose answer differs"
     ),
     "synth": Command("N NETLIST RESULT", "", "NETLIST RESULT", "writes a netlist of N cells, {} to {}, and a result for it".format(*NUMBERS["n"])),
 }
@@ -255,9 +255,9 @@ def usage(name: str | None = None) -> str:
     return "\n".join([*lines, ""])
 
 
-def main(words):
+def main(words: list[str]) -> int:
     """Prints the usage that words ask for. Returns the status."""
-    from words import unknown  # which reads the tables of this module
+    from words import unknown  # imported here, since it reads the tables of this module
 
     if not words or words[0] in (*COMMANDS, *HELPERS, "help", "-h", "--help"):
         say(usage(*words[:1]))

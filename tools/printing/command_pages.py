@@ -1,4 +1,4 @@
-"""What README, FORMATS and the desk repeat of the commands: their words, files, options and numbers."""
+"""Prints and checks what README, FORMATS and the desk repeat about the commands: their words, files, options and numbers."""
 
 import re
 import sys
@@ -10,11 +10,11 @@ from sources import ROOT
 sys.path.insert(0, str(ROOT / "tools" / "desk"))
 import usage  # noqa: E402
 
-PLAIN_CALL = re.compile(r"`([a-z]+)((?: [a-z]+)*)`")
+PLAIN_CALL = re.compile(r"`([a-z]+)((?: [A-Z]+)*)`")
 
 
 def numbers() -> dict[str, tuple[Number, list[str]]]:
-    """By name each number that commands take, with these commands. One name has one range."""
+    """By name each number that commands take, with these commands. One name must have one range."""
     found: dict[str, tuple[Number, list[str]]] = {}
     for command, taken in program_words().items():
         for it in taken.numbers:
@@ -40,7 +40,7 @@ def listed(names: list[str]) -> str:
 
 
 def print_ranges() -> Iterator[str]:
-    """A row for each number: its commands, and which ones are taken."""
+    """A row for each number: its commands, its range and its default."""
     yield "| Number | From | To | Default |"
     yield "|---|---|---|---|"
     for name, (it, commands) in numbers().items():
@@ -61,7 +61,7 @@ def print_commands() -> Iterator[str]:
 
 
 def command_differences() -> Iterator[str]:
-    """What the desk and README say otherwise of the commands than the program."""
+    """Where the desk and README differ from the program about the commands."""
     program = program_words()
     for name in sorted(program.keys() ^ usage.COMMANDS.keys()):
         yield f"tools/desk/usage.py: {name} is {'missing' if name in program else 'no command of the program'}"
@@ -75,7 +75,7 @@ def command_differences() -> Iterator[str]:
         yield f"tools/desk/usage.py: the kinds of a dictionary are {' '.join(dictionary_kinds())}"
     rows = "\n".join(it for it in (ROOT / "README.md").read_text().splitlines() if it.startswith("|"))
     shown = {(name, *words.split()) for name, words in PLAIN_CALL.findall(rows) if name in program}
-    right = {(name, *taken.names) for name, taken in program.items()}
+    right = {(name, *("KIND" if "|" in it else it for it in command.words.split())) for name, command in usage.COMMANDS.items()}
     for words in sorted(right - shown):
         yield f"README.md: its table of commands lacks `{' '.join(words)}`"
     for words in sorted(it for it in shown - right if it[1:]):

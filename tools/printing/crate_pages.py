@@ -1,4 +1,4 @@
-"""What MAP, WORDS, DEFINITIONS and PROVED repeat of the sources."""
+"""Prints what MAP, WORDS, DEFINITIONS and PROVED repeat from the sources."""
 
 import re
 from typing import Iterator
@@ -21,7 +21,7 @@ from sources import (
 
 WORD = re.compile(r"\w+")
 CALLED = re.compile(r"(pub )?(?:const |unsafe )?fn \w+")
-# The definitions that a type's `view` and `invariant` show are of its fields, and no contract of another crate cites them.
+# The clauses `view` and `invariant` are left out: their definitions are about a type's fields, and no contract of another crate cites them.
 CLAUSES = ("ensures", "requires", "ghost from_gives", "ghost Value", "ghost sure_tells", "ghost state")
 
 
@@ -31,7 +31,7 @@ def names(items: list[str]) -> str:
 
 
 def cell(text: str) -> str:
-    """The first paragraph of a text, as it may stand in a table."""
+    """The first paragraph of a text, for a table."""
     return re.sub(r"(?<!\\)\|", r"\\|", text.split("\n")[0])
 
 
@@ -41,13 +41,13 @@ def whole(text: str) -> str:
 
 
 def as_phrase(text: str) -> str:
-    """A text as the words behind a colon: it begins small, and one sentence has no stop."""
+    """A text as the words after a colon: it begins with a small letter, and a single sentence has no stop."""
     small = text[0].lower() + text[1:] if text[0].isupper() and not text[1:2].isupper() else text
     return small if ". " in small else small.rstrip(".")
 
 
 def print_crates() -> Iterator[str]:
-    """A row for each crate: what it stands on in this repository, and what it says of itself."""
+    """A row for each crate: what it depends on in this repository, and what it says about itself."""
     listed = crates()
     own = {it.name for it in listed}
     yield "| Crate | Stands on | What it has |"
@@ -57,7 +57,7 @@ def print_crates() -> Iterator[str]:
 
 
 def print_files() -> Iterator[str]:
-    """For each crate a table of its files: what each says of itself, and what it has that others can use."""
+    """For each crate a table of its files: what each says about itself, and what it has that others can use."""
     group = ""
     for crate in crates():
         if crate.group != group:
@@ -67,7 +67,7 @@ def print_files() -> Iterator[str]:
 
 
 def file_table(crate: Crate) -> Iterator[str]:
-    """The table of one crate, if it has files besides its root."""
+    """The table of one crate, if it has other files than its root."""
     files = files_of(crate.name)
     if not files:
         return
@@ -81,7 +81,7 @@ def file_table(crate: Crate) -> Iterator[str]:
 
 
 def public_types() -> Iterator[tuple[str, str, Item]]:
-    """Each public type with its crate, also one that its crate doesn't hand out at its top."""
+    """Each public type with its crate, also one that its crate doesn't export at its root."""
     for crate in crates():
         for file in [*files_of(crate.name), root_of(crate.name)]:
             if not crate.name.startswith("tests_"):
@@ -89,7 +89,7 @@ def public_types() -> Iterator[tuple[str, str, Item]]:
 
 
 def print_types() -> Iterator[str]:
-    """A row for each public type: its crate, and what is said of it."""
+    """A row for each public type: its crate, and the comment above it."""
     yield "| Type | Crate | What it is |"
     yield "|---|---|---|"
     for name, crate, item in sorted(public_types(), key=lambda it: (it[0].lower(), it[1])):
@@ -97,7 +97,7 @@ def print_types() -> Iterator[str]:
 
 
 def cited_words() -> set[str]:
-    """The words of the clauses of all calls that crates hand out."""
+    """The words of the clauses of all public calls."""
     found: set[str] = set()
     for crate in crates():
         for file in [] if crate.name.startswith("tests_") else files_of(crate.name):
@@ -123,7 +123,7 @@ def all_definitions() -> dict[str, list[Definition]]:
 
 
 def definitions_needed() -> set[str]:
-    """The names of the definitions that the clauses of public calls cite, and of those that these cite."""
+    """The names of the definitions that the clauses of public calls cite, and of the definitions that these cite."""
     known = all_definitions()
     cited = {it for it in cited_words() if it in known}
     return cited | {it for name in cited for one in known[name] for it in WORD.findall(one.body) if it in known}
@@ -138,7 +138,7 @@ def definition_lines(shown: list[Definition]) -> Iterator[str]:
 
 
 def print_definitions() -> Iterator[str]:
-    """For each crate its files of definitions: those that contracts of public calls cite, with what is said of each."""
+    """For each crate its files of definitions, with the definitions that the contracts of public calls cite and the comment above each."""
     needed = definitions_needed()
     for crate in crates():
         files = [] if crate.name.startswith("tests_") else specs_of(crate.name)
@@ -157,7 +157,7 @@ def print_definitions() -> Iterator[str]:
 
 
 def call_line(item: Item) -> str:
-    """A call with what is said of it, and the names of its clauses."""
+    """A call with the comment above it, and the names of its clauses."""
     clauses = f" ({', '.join(item.clauses)})" if item.clauses else ""
     return f"- `{item.name}`: {whole(item.says)}{clauses}"
 
@@ -172,7 +172,7 @@ def call_lines(title: str, items: list[Item]) -> Iterator[str]:
 
 
 def print_calls() -> Iterator[str]:
-    """For each crate its laws and its calls, with what is said of each and the names of its clauses."""
+    """For each crate its laws and its calls, with the comment above each and the names of its clauses."""
     for crate in crates():
         files = files_of(crate.name)
         if of_tests(crate.name) or not files:

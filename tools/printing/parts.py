@@ -1,4 +1,4 @@
-"""The printed parts of pages: where they stand, and how they are printed anew."""
+"""The printed parts of pages: where they are, and how they are printed anew."""
 
 import re
 from typing import Callable, Iterable, Iterator, NamedTuple

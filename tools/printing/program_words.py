@@ -1,7 +1,7 @@
-"""Which words each command takes, read from the definitions that the program gives to `clap`.
+"""Reads which words each command takes from the definitions that the program gives to `clap`.
 
-Of crates/request_words/src this reads the arms of `verb_named` and `definition`, and the functions that they call, down to those of
-arguments.rt, which are known here by name. Whatever else stands there is refused, so that nothing is passed over."""
+In crates/request_words/src this reads the arms of `verb_named` and `definition`, and the functions that they call, down to those of
+arguments.rt, which are known here by name. Anything else there is refused, so that nothing is overlooked."""
 
 import ast
 import re
@@ -19,12 +19,12 @@ LET = re.compile(r"let (\w+) = (.*)", re.S)
 
 
 class Number(NamedTuple):
-    """A number among the words: its place in the words or its option, and which ones are taken."""
+    """A number among the words: the name of its place or of its option, its range and its default."""
 
     name: str
     least: int
     most: int
-    default: int | None  # none if it can't be left out
+    default: int | None  # None if it can't be left out
 
 
 class Taken(NamedTuple):
@@ -40,21 +40,21 @@ class Taken(NamedTuple):
 
 
 class Unread(Exception):
-    """What stands in the sources is none of the things that are read here."""
+    """Names what the sources have and this module can't read."""
 
 
 def with_arg(taken: Taken, arg: Taken) -> Taken:
-    """What is taken with an argument more."""
+    """What is taken with one more argument."""
     return Taken(taken.names + arg.names, taken.numbers + arg.numbers, taken.texts + arg.texts)
 
 
 def with_names(taken: Taken, *names: str) -> Taken:
-    """What is taken with names more."""
+    """What is taken with more names."""
     return with_arg(taken, Taken(names))
 
 
 def with_option(taken: Taken, name: str, default: str, least: int, most: int) -> Taken:
-    """What is taken with a number more, which has a default."""
+    """What is taken with one more number, which has a default."""
     return with_arg(taken, Taken(numbers=(Number(name, least, most, int(default)),)))
 
 
@@ -70,7 +70,7 @@ KNOWN = {
 
 
 class Definitions:
-    """The functions and constants by which commands are defined."""
+    """The functions and constants that define the commands."""
 
     def __init__(self) -> None:
         texts = {it: (SOURCE / f"{it}.rt").read_text() for it in ("request", "commands")}
@@ -80,7 +80,7 @@ class Definitions:
         self.functions = {name: (parameters, body) for name, parameters, body in FUNCTION.findall(texts["commands"])}
 
     def value(self, node: ast.expr, known: dict[str, object]) -> object:
-        """What an expression gives, with these variables."""
+        """The value of an expression with these variables."""
         match node:
             case ast.Constant(value=value):
                 return value
@@ -93,7 +93,7 @@ class Definitions:
         raise Unread(ast.unparse(node))
 
     def call(self, name: str, values: list) -> object:
-        """What a function gives of these values."""
+        """What a function returns for these values."""
         if name in KNOWN:
             return KNOWN[name](*values)
         if name not in self.functions:
@@ -110,7 +110,7 @@ class Definitions:
         return result
 
     def expression(self, text: str, known: dict[str, object]) -> object:
-        """What an expression of the source gives."""
+        """The value of an expression of the source with these variables."""
         try:
             return self.value(ast.parse(text.replace("?", "").strip(), mode="eval").body, known)
         except SyntaxError:

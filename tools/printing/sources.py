@@ -1,4 +1,4 @@
-"""What stands in the sources: the crates and their files, public items with the comments above them, and definitions."""
+"""Reads the sources: the crates and their files, public items with the comments above them, and definitions."""
 
 import pathlib
 import re
@@ -11,7 +11,7 @@ CALL = re.compile(r"(pub |)(?:const |unsafe )?fn (\w+)")
 BLOCK = re.compile(r"(?:impl(?:<.*?>)? |(?:pub(?:\(crate\))? )?trait )(\w+)")
 CLAUSE = re.compile(r"\s*ensures (?:(\w+) )?\{")
 EXPORT = re.compile(r"^pub use (\w+(?:::\w+)*?)::(?:\{([^}]*)\}|(\w+));", re.M)
-DEFINITION = re.compile(r"(?:(?:abbrev|unfoldable|opaque|transparent) pub|pub(?: record| data)?) (\w+)")
+DEFINITION = re.compile(r"(?:(?:abbrev|unfoldable|opaque|transparent) pub|pub(?: record| data)?) ([\w-]+)")
 
 
 class Crate(NamedTuple):
@@ -19,7 +19,7 @@ class Crate(NamedTuple):
 
     name: str
     group: str  # the comment above it
-    below: tuple[str, ...]  # what it stands on, those of the kit too
+    below: tuple[str, ...]  # the crates that it depends on, those of the kit too
 
 
 class Item(NamedTuple):
@@ -33,7 +33,7 @@ class Item(NamedTuple):
 
     @property
     def owner(self) -> str:
-        """The name that a crate hands out so that this can be used."""
+        """The name that a crate exports so that this can be used."""
         return self.name.partition("::")[0]
 
 
@@ -63,7 +63,7 @@ def of_tests(crate: str) -> bool:
 
 
 def files_of(crate: str) -> list[pathlib.Path]:
-    """The files of a crate's modules, in the order of its `mod` lines."""
+    """The files of a crate's modules, sorted by path."""
     source = CRATES / crate / "src"
     if crate.startswith("tests_"):
         return sorted((source / "tests").rglob("*.rt"))
@@ -82,17 +82,20 @@ def paragraphs(lines: list[str]) -> str:
 
 
 def head_of(file: pathlib.Path) -> str:
-    """What a file of code says of itself, by the comment at its head."""
-    said = []
+    """What a file of code says about itself: the comment at its head, without its drawings."""
+    said, drawn = [], False
     for line in file.read_text().splitlines():
         if not line.startswith("//") or line.startswith("///"):
             break
-        said.append(line.lstrip("/!").strip())
+        text = line.lstrip("/!").strip()
+        if not drawn and not text.startswith("```"):
+            said.append(text)
+        drawn ^= text.startswith("```")
     return paragraphs(said)
 
 
 def exported(crate: str) -> set[str]:
-    """The names that a crate hands out."""
+    """The names that a crate exports."""
     names = set()
     for _, several, one in EXPORT.findall(root_of(crate).read_text()):
         names |= {it.split(" as ")[-1].strip() for it in (several or one).split(",") if it.strip()}
@@ -102,7 +105,7 @@ def exported(crate: str) -> set[str]:
 def clauses_below(lines: list[str], at: int) -> tuple[str, ...]:
     """The names of the clauses of the call whose first line this is."""
     indent, found = re.match(r"\s*", lines[at]).group(), []
-    for line in lines[at + 1 :]:
+    for line in filter(str.strip, lines[at + 1 :]):
         clause = CLAUSE.match(line)
         if clause and clause.group(1):
             found.append(clause.group(1))
@@ -112,7 +115,7 @@ def clauses_below(lines: list[str], at: int) -> tuple[str, ...]:
 
 
 def items_of(file: pathlib.Path) -> Iterator[Item]:
-    """The types and calls of a file, with the comment above each; of a trait of the outside the calls that it asks for."""
+    """The types and calls of a file, with the comment above each. The calls of a public trait are public."""
     lines, said, block, open_trait = file.read_text().splitlines(), [], "", False
     for at, line in enumerate(lines):
         text = line.strip()
@@ -138,7 +141,7 @@ def items_of(file: pathlib.Path) -> Iterator[Item]:
 
 
 def public_items(crate: str, file: pathlib.Path) -> list[Item]:
-    """What a file has that the crate hands out."""
+    """What a file has that the crate exports."""
     names = exported(crate)
     return [it for it in items_of(file) if it.public and it.owner in names]
 
@@ -150,7 +153,7 @@ def specs_of(crate: str) -> list[pathlib.Path]:
 
 
 def unfolded(file: pathlib.Path) -> Iterator[str]:
-    """The lines of a file of definitions; what a `module` with parameters or a `mutual` holds as if it stood at the left."""
+    """The lines of a file of definitions, without the indentation of what a `module` with parameters or a `mutual` holds."""
     depth = 0
     for line in file.read_text().splitlines():
         if line.strip():

@@ -1,4 +1,4 @@
--- Numbers of the patterns of a block, behind those of the patterns before it.
+-- Numbers of the patterns of a block, after those of the patterns before it.
 use Rattle.std.proofs.Common.{◌≡◌, ◌∙◌, ℕ, ◌+◌, ◌-◌, ◌<◌, ◌≤◌, Bool, List, [], Some, length, get_or, map, sym, subst, arith}
 use Rattle.std.specs.Prelude.{slice_range, All}
 use Rattle.std.specs.List.{range_with_len}

@@ -1,4 +1,4 @@
--- Numbers in place of answers: the same pattern parts most pairs, and the branches are those of the answers.
+-- Numbers in place of answers: the same pattern splits most pairs, and the branches are those of the answers.
 use Rattle.std.proofs.Common.{◌≡◌, ◌∙◌, ℕ, suc, ◌<◌, refl, ap, sym, subst, arith, cond, append_assoc}
 use Rattle.std.specs.Prelude.{Bool, true, false, not, ◌==◌, List, [], ◌∷◌, ◌++◌, map, length, filter, count_by}
 use Rattle.std.specs.List.{AllByRecursion}
@@ -109,7 +109,7 @@ module _ (t : ClassTable) (table : Answers) (c : ClassNumbers) (are : AreNumbers
         lowest = λ other low. omega (arith, pairs_are other (omega (arith, low, here)) xs known, pairs_are pattern here xs known, most.lowest other low);
       }
 
--- ---- steps of branches, one list behind another
+-- ---- steps of branches, one list after another
 
 module _ (t : ClassTable) (table : Answers) (c : ClassNumbers) where
   pub record AreBoth (first second : List Branch) (steps : List Step) : Type 0 where

@@ -59,7 +59,7 @@ module _ (patterns : List ℕ) where
   pub pattern_numbers-push : (pattern : ℕ) (lists : List (List ℕ)) (list : List ℕ) → pattern_numbers patterns pattern (lists ++ list ∷ []) ≡ pattern_numbers patterns pattern lists ++ number_for patterns pattern list ∷ []
   pattern_numbers-push pattern lists list = map-append (number_for patterns pattern) lists (list ∷ [])
 
-  -- ---- one number more in the last list
+  -- ---- one more number in the last list
 
   module _ (limit : ℕ) (lists : List (List ℕ)) (list : List ℕ) (n : ℕ) (some : 0 < n) (known : n < length patterns) (once : find (λ m. slice_index patterns m == slice_index patterns n) list ≡ None) where
     abbrev pub own : ℕ

@@ -1,4 +1,4 @@
--- No way of a plan has more asks than there are patterns: a pattern that was asked parts no set below.
+-- No way of a plan has more asks than there are patterns: a pattern that was asked splits no set below.
 use Rattle.std.proofs.Common.{◌≡◌, ◌∙◌, ℕ, zero, suc, ◌+◌, ◌<◌, ◌≤◌, refl, ap, sym, arith, cond, inl, inr}
 use Rattle.std.specs.Prelude.{Bool, true, false, not, if◌then◌else◌, List, [], ◌∷◌, length, filter, count_by, ◌⊎◌, nat_lt, ⊤}
 use Rattle.std.proofs.lemmas.Bool.{false≢true, ltb-true, lt-ltb}
@@ -11,7 +11,7 @@ use Rattle.adaptive_planner.specs.Planned.{IsPlanned, ArePlanned, parted_pairs, 
 use Rattle.adaptive_tree.proofs.CountsBelow.{count_below, count_fits, count_fewer}
 use Rattle.adaptive_planner.proofs.OnePlan.{count_by-cons, some_unlike}
 
--- ---- pairs that are parted
+-- ---- pairs that are split
 
 pub count_filter : (test keep : ℕ → Bool) (xs : List ℕ) → count_by test (filter keep xs) ≤ count_by test xs
 count_filter test keep [] = omega arith
@@ -66,7 +66,7 @@ module _ (t : ClassTable) (table : Answers) (pattern : ℕ) where
       by_length (x ∷ xs) some long = omega (arith, long)
 
 module _ (t : ClassTable) (table : Answers) where
-  -- whether a pattern parts a pair of the set
+  -- whether a pattern splits a pair of the set
   abbrev pub parts : List ℕ → ℕ → Bool
   parts classes pattern = nat_lt 0 (parted_pairs t table pattern classes)
 

@@ -49,7 +49,7 @@ and_is_plan = record {
   );
 }
 
--- a plan that asks the patterns in order isn't it, whatever follows: pattern 0 parts four pairs, and pattern 1 six
+-- a plan that asks pattern 0 first isn't the plan, whatever follows: pattern 0 splits four pairs, and pattern 1 six
 not_in_order : (branches : Branches) → ¬ IsPlanned and_classes and_answers (0 ∷ 1 ∷ 2 ∷ 3 ∷ 4 ∷ []) (ask 0 branches)
 unfolding representative
 not_in_order branches planned = omega (arith, planned.1.most 1 (lit< tt))

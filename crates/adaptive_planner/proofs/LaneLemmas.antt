@@ -58,7 +58,7 @@ module _ (all : List (List Bool)) (place n : ℕ) (low : place < length all) (is
       let same : at.0 ≡ n = distinct_apart all at.0 n whole.0 is.within (whole.1 ∙ (at.2 ∙ sym is.own)) in
       omega (arith, at.1, same)
 
-  -- and of one that didn't
+  -- the number of an answer that didn't come before
   here : is_among x (take place all) ≡ false → n ≡ length so_far
   here e =
       let next = next_by false e in

@@ -1,4 +1,4 @@
--- A test of which pattern parts most pairs of a set.
+-- A test of which pattern splits most pairs of a set.
 use Rattle.std.proofs.Common.{◌≡◌, ℕ, zero, suc, ◌<◌, subst, sym, arith, inl, inr}
 use Rattle.std.specs.Prelude.{Bool, true, ◌&&◌, List, length, nat_lt, nat_le, ◌⊎◌}
 use Rattle.std.proofs.lemmas.Bool.{ltb-true, leb-true}

@@ -1,4 +1,4 @@
--- Numbers of classes, with those of one pattern more.
+-- Numbers of classes, with those of one more pattern.
 use Rattle.std.proofs.Common.{◌≡◌, ◌∙◌, ℕ, suc, ◌+◌, ◌<◌, ◌≤◌, ◌^◌, refl, ap, sym, subst, arith, cond, inl, inr, get_or, take, replicate}
 use Rattle.std.specs.Prelude.{Bool, true, false, ◌==◌, if◌then◌else◌, List, [], ◌∷◌, ◌++◌, length, find, Option, None, Some, unwrap_or, slice_index, slice_index_or, All, ◌⊎◌}
 use Rattle.std.proofs.Math.Seq.{get_or-append_seam}
@@ -84,7 +84,7 @@ module _ (patterns : List ℕ) (limit : ℕ) (own : List ℕ) (n : ℕ) (are : A
     once = λ k h. once_at k (place k h);
   }
 
--- ---- one pattern more
+-- ---- one more pattern
 
 module _ (old new : ClassNumbers) (numbers : List ℕ) (added : List (List Bool)) (are : AreClassNumbers old) (has : HasPattern numbers added old new) where
   abbrev base : ℕ

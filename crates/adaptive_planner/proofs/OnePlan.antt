@@ -1,4 +1,4 @@
--- A set of classes has one plan at most, and asks of each node have two branches or more.
+-- A set of classes has at most one plan, and each ask of it has two or more branches.
 use Rattle.std.proofs.Common.{◌≡◌, ◌∙◌, ℕ, ◌+◌, ◌<◌, ◌≤◌, refl, ap, sym, subst, arith, cond, inl, inr}
 use Rattle.std.specs.Prelude.{◌≢◌, Bool, true, false, not, if◌then◌else◌, List, [], ◌∷◌, ◌++◌, length, filter, count_by, ◌⊎◌}
 use Rattle.std.specs.List.{range_with_len}
@@ -23,7 +23,7 @@ first_number (n ∷ numbers) = n
 plan_of : ℕ → ℕ → ℕ → List Step → Plan
 plan_of positions patterns classes steps = record { positions = positions; patterns = patterns; classes = classes; steps = steps }
 
--- where none fails a test, all pass it
+-- if none fails a test, all pass it
 passed_cons : (b : Bool) (x : ℕ) (kept left xs : List ℕ) → cond (not b) (x ∷ left) left ≡ [] → (left ≡ [] → kept ≡ xs) → cond b (x ∷ kept) kept ≡ x ∷ xs
 passed_cons true x kept left xs none same = ap (λ rest. x ∷ rest) (same none)
 passed_cons false x kept left xs none same = absurd (omega (arith, ap length none))
@@ -84,7 +84,7 @@ module _ (t : ClassTable) (table : Answers) where
       ∙ (ap (λ n. plan_of other.positions other.patterns n plan.steps) (one.classes_are ∙ sym two.classes_are)
       ∙ ap (plan_of other.positions other.patterns other.classes) steps))
 
-  -- ---- a pattern that is asked parts the set
+  -- ---- a pattern that is asked splits the set
 
   -- a branch for all classes of the set would have the node of the set again
   others_alike : (pattern lowest : ℕ) (classes : List ℕ) (branches : Branches) → IsPlanned t table (lowest ∷ classes) (ask pattern branches) → alike_with t table pattern lowest classes ≡ classes → ⊥
@@ -103,7 +103,7 @@ module _ (t : ClassTable) (table : Answers) where
   count_planned pattern (lowest ∷ classes) no_branch planned some = absurd planned
   count_planned pattern (lowest ∷ classes) (branch answer node others) planned some = omega arith
 
-  -- an ask has two branches or more
+  -- an ask has two or more branches
   pub two_branches : (pattern : ℕ) (classes : List ℕ) (branches : Branches) → IsPlanned t table classes (ask pattern branches) → 2 ≤ length (branch_answers branches)
   two_branches pattern [] branches planned = absurd (omega (arith, planned.0))
   two_branches pattern (lowest ∷ classes) no_branch planned = absurd planned.2

@@ -36,7 +36,7 @@ first_is_not = refl
 pub not_first_yes : (n : ℕ) → 0 < n → not_first n ≡ true
 not_first_yes n some = ap not (ne_eqb n 0 (λ e. omega (arith, e, some)))
 
--- those that aren't 0 are those that have a number above 0, and the others
+-- the numbers that aren't 0 are those equal to a given one above 0, and the others
 pub count_split : (n : ℕ) → 0 < n → (xs : List ℕ) → count_by (λ x. not (x == n)) (filter not_first xs) + count_by (λ x. x == n) xs ≡ count_by not_first xs
 count_split n some [] = refl
 count_split n some (x ∷ xs) = by_case (count_split n some xs) (x == 0) refl
@@ -58,7 +58,7 @@ count_split n some (x ∷ xs) = by_case (count_split n some xs) (x == 0) refl
         ∙ omega (arith, none, first, count_by-cons (λ y. y == n) x xs, count_by-cons not_first x xs, ih)
     by_case ih false e = ap (λ c. count_by (λ y. not (y == n)) (if not c then x ∷ filter not_first xs else filter not_first xs) + count_by (λ y. y == n) (x ∷ xs)) e ∙ by_number ih e (x == n) refl
 
--- the numbers that aren't n, above 0: all zeros, and some of the others
+-- the numbers that differ from a given one above 0 are all zeros and some of the others
 count_unequal : (n : ℕ) → 0 < n → (xs : List ℕ) → count_by (λ x. not (n == x)) xs ≡ count_by (λ x. x == 0) xs + count_by (λ x. not (n == x)) (filter not_first xs)
 count_unequal n some [] = refl
 count_unequal n some (x ∷ xs) = by_case (count_unequal n some xs) (x == 0) refl

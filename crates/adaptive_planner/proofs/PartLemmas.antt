@@ -1,4 +1,4 @@
--- Branches that get one class more.
+-- Branches that get one more class.
 use Rattle.std.proofs.Common.{◌≡◌, ◌≢◌, ◌∙◌, ℕ, zero, suc, ◌+◌, ◌-◌, ◌<◌, ◌≤◌, refl, ap, sym, subst, arith, get_or, set, take, inl, inr}
 use Rattle.std.specs.Prelude.{Bool, true, false, not, ◌==◌, if◌then◌else◌, ◌⊎◌, List, [], ◌∷◌, ◌++◌, map, length, filter, slice_index}
 use Rattle.std.proofs.Math.Seq.{map-set_same}
@@ -63,7 +63,7 @@ module _ (f : ℕ → ℕ) (pattern : ℕ) where
         subst (λ (rest : List ℕ). AreSetParts f pattern rest (bs ++ new ∷ [])) (sym (filter_push_in (λ o. not (f lowest == f o)) xs class (ap not other))) later,
       )
 
-  -- ---- one branch is not enough where a pair is parted
+  -- ---- one branch isn't enough if a pair is split
 
   no_parts : (xs : List ℕ) → AreSetParts f pattern xs [] → xs ≡ []
   no_parts [] parts = refl

@@ -43,7 +43,7 @@ module _ (t : ClassTable) (table : Answers) (can : CanBePlanned t table) (plan :
   abbrev AreBelow : List ℕ → Type 0
   AreBelow classes = AllByRecursion (λ c. c < class_count t) classes
 
-  -- no pattern that is asked above parts the set
+  -- no pattern that is asked above splits the set
   abbrev NonePart : List ℕ → List ℕ → Type 0
   NonePart above classes = (pattern : ℕ) → Contains above pattern → parted_pairs t table pattern classes ≡ 0
 

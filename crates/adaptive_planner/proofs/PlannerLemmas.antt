@@ -1,4 +1,4 @@
--- A node more, and the branches that wait.
+-- One more node, and the branches that wait.
 use Rattle.std.proofs.Common.{◌≡◌, ◌∙◌, ℕ, ◌-◌, ◌*◌, ◌<◌, ◌≤◌, refl, ap, sym, subst, arith, get_or, append_assoc}
 use Rattle.std.specs.Prelude.{List, [], ◌∷◌, ◌++◌, reverse, length, sum_by, slice_index}
 use Rattle.std.specs.List.{AllByRecursion}

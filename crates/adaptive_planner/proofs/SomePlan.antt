@@ -88,7 +88,7 @@ module _ (t : ClassTable) (table : Answers) where
       by_keep true rest = (filter_all (Differ x) keep xs apart.0, rest)
       by_keep false rest = rest
 
-  -- ---- a pattern that parts most pairs
+  -- ---- a pattern that splits most pairs
 
   some_pair : (x y : ℕ) (xs : List ℕ) (d : Differ x y) → 0 < parted_pairs t table d.pattern (x ∷ y ∷ xs)
   some_pair x y xs d =
@@ -113,7 +113,7 @@ module _ (t : ClassTable) (table : Answers) where
   best_of_apart : (x y : ℕ) (xs : List ℕ) → AreApart (x ∷ y ∷ xs) → Best (x ∷ y ∷ xs)
   best_of_apart x y xs apart = let d : Differ x y = apart.0.0 in best_of_first (x ∷ y ∷ xs) d.pattern d.within (some_pair x y xs d) (length table.rows) refl
 
-  -- a pattern that parts a pair has a class that isn't like the lowest
+  -- if a pattern splits a pair, some class answers otherwise than the lowest
   fewer_alike : (pattern lowest : ℕ) (classes : List ℕ) → 0 < parted_pairs t table pattern (lowest ∷ classes) → 0 < length (unlike t table pattern lowest classes)
   fewer_alike pattern lowest classes parts = by_rest (unlike t table pattern lowest classes) refl
     where

@@ -25,7 +25,7 @@ module _ (f : ℕ → List Bool) (count : ℕ) (rows : List (List Bool)) (groups
     same = λ one other h g alike. are.grouped.different.apart (get_or groups one 0) (get_or groups other 0) (group_low one h) (group_low other g) (group_answer one h ∙ (alike ∙ sym (group_answer other g)));
   }
 
--- the numbers with one pattern more, where so many were before
+-- the numbers with one more pattern
 pub pattern_added : (f : ℕ → ℕ → List Bool) (count pattern : ℕ) (numbers : List ℕ) (added : List (List Bool)) (old new : ClassNumbers) → AddsPattern numbers added old new → AreNumbersTo f pattern count old → AreRowNumbers (f pattern) count numbers added → AreNumbersTo f (pattern + 1) count new
 pattern_added f count pattern numbers added old new adds to rows =
     subst (λ k. AreNumbersTo f (k + 1) count new) to.patterns

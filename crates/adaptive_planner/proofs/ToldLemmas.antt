@@ -45,7 +45,7 @@ module _ (c : ClassNumbers) where
   fewer_kept : (keep : ℕ → Bool) (xs : List ℕ) → length (filter keep xs) + length (filter (λ x. not (keep x)) xs) ≡ length xs
   fewer_kept keep xs = length-filter_both keep (λ x. not (keep x)) (λ x. refl) xs
 
-  -- what is true of a set, without that there is a class
+  -- what holds for a set that may be empty
   record IsPart (xs : List ℕ) : Type 0 where
     known : AllByRecursion (λ class. class < length c.own.items) xs
     few : length xs < 2 ^ 32
@@ -96,7 +96,7 @@ module _ (c : ClassNumbers) where
   parts_nodes f pattern (b ∷ bs) (x ∷ xs) parts =
       omega (arith, sum_cons b bs, ap length parts.2, fewer_kept (λ o. f x == f o) xs, parts_nodes f pattern bs (filter (λ o. not (f x == f o)) xs) parts.3)
 
-  -- ---- a pattern that parts most pairs parts one
+  -- ---- a pattern that splits most pairs splits one
 
   pub some_parted_pair : (xs : List ℕ) (pattern : ℕ) → IsToldSet c xs → 1 < length xs → IsMostParting c xs pattern → 0 < unequal_pairs (map (class_number c pattern) xs)
   some_parted_pair [] pattern is several most = absurd (omega (arith, several))

@@ -9,7 +9,8 @@ use Rattle.adaptive_tree.specs.declared.steps.Plan.{Plan}
 use Rattle.adaptive_planner.specs.Planned.{IsPlan, IsToldApart}
 use Rattle.adaptive_planner.specs.Promises.{IsGoodPlan, LeadsHome, IsOfFault}
 
--- Each class has a member, answers tell the classes apart, and 32 bits number the patterns, positions and classes.
+-- Each class has a member, the rows of the table are whole, its answers distinguish the classes, and 32 bits number the
+-- patterns, the positions and the classes.
 pub record CanBePlanned (t : ClassTable) (table : Answers) : Type 0 where
   pub whole : IsWhole t
   pub table_is : IsTable table
@@ -18,7 +19,7 @@ pub record CanBePlanned (t : ClassTable) (table : Answers) : Type 0 where
   pub positions : table.positions < 2 ^ 32
   pub classes : class_count t < 2 ^ 32
 
--- there is one plan, and no other
+-- classes and a table that can be planned have exactly one plan
 abbrev pub HaveOnePlan : Type 0
 HaveOnePlan = (t : ClassTable) (table : Answers) → CanBePlanned t table → (plan : Plan) × IsPlan t table plan × ((other : Plan) → IsPlan t table other → other ≡ plan)
 
@@ -26,7 +27,7 @@ HaveOnePlan = (t : ClassTable) (table : Answers) → CanBePlanned t table → (p
 abbrev pub PlansAreGood : Type 0
 PlansAreGood = (t : ClassTable) (table : Answers) (plan : Plan) → CanBePlanned t table → IsPlan t table plan → IsGoodPlan t table plan
 
--- where the table has the answers of a circuit's faults, each fault's own answers lead to its class
+-- if the table has the answers of a circuit's faults, each fault's own answers lead to its class
 abbrev pub FaultsLeadHome : Type 0
 FaultsLeadHome = (c : Circuit) (patterns : List (List Bool)) (t : ClassTable) (table : Answers) (plan : Plan) (number : ℕ) → AreAnswers c patterns table → IsGoodPlan t table plan → number < fault_count c
     → LeadsHome plan (IsOfFault c patterns (fault_numbered c number)) (class_at t number)

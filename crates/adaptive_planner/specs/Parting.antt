@@ -1,14 +1,15 @@
--- A set of classes, parted by what they answer to a pattern.
+-- A set of classes, split by what they answer to a pattern.
 use Rattle.std.specs.Prelude.{◌≡◌, ◌≢◌, ℕ, ◌<◌, ◌≤◌, ◌==◌, not, List, [], ◌∷◌, map, filter, length, slice_index, ⊤}
 use Rattle.adaptive_planner.specs.declared.class_numbers.ClassNumbers.{ClassNumbers}
 use Rattle.adaptive_planner.specs.declared.parting.Branch.{Branch}
 use Rattle.adaptive_planner.specs.Numbering.{class_number}
 
--- a branch for a number of a pattern, with these classes
+-- the classes of a branch
 abbrev pub classes_of : Branch → List ℕ
 classes_of b = b.classes.items
 
--- The branches have the set: the first one all classes that have the number of the lowest, the others the rest.
+-- The branches split the set by number: the first one has all classes with the number of the lowest class, and the
+-- others split the rest.
 abbrev pub AreSetParts : (ℕ → ℕ) → ℕ → List ℕ → List Branch → Type 0
 AreSetParts number pattern [] [] = ⊤
 AreSetParts number pattern [] (b ∷ bs) = ⊥
@@ -22,12 +23,12 @@ AreBranchesOf c pattern set branches = AreSetParts (class_number c pattern) patt
 abbrev pub branch_numbers : List Branch → List ℕ
 branch_numbers branches = map (λ b. b.number) branches
 
--- Each number of a branch has the branch's place noted.
+-- For the number of each branch the place of the branch is noted in `slots`.
 pub record ArePlacesNoted (slots : List ℕ) (branches : List Branch) : Type 0 where
   pub within : (place : ℕ) → place < length branches → slice_index (branch_numbers branches) place < length slots
   pub noted : (place : ℕ) → place < length branches → slice_index slots (slice_index (branch_numbers branches) place) ≡ place
 
--- The branches have the classes of a set so far.
+-- The branches split the set so far, and their places are noted in `slots`, which has a place for each number.
 pub record ArePartsTo (c : ClassNumbers) (pattern : ℕ) (set : List ℕ) (branches : List Branch) (slots : List ℕ) : Type 0 where
   pub parts : AreBranchesOf c pattern set branches
   pub noted : ArePlacesNoted slots branches
@@ -38,7 +39,7 @@ pub record ArePartsTo (c : ClassNumbers) (pattern : ℕ) (set : List ℕ) (branc
 abbrev pub HaveNotNumber : List Branch → ℕ → Type 0
 HaveNotNumber branches number = (place : ℕ) → place < length branches → slice_index (branch_numbers branches) place ≢ number
 
--- The branch at a place has it.
+-- The branch at the place has the number.
 pub record HasNumber (branches : List Branch) (number place : ℕ) : Type 0 where
   pub within : place < length branches
   pub is : slice_index (branch_numbers branches) place ≡ number

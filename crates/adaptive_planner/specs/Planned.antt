@@ -1,5 +1,5 @@
--- The plan for the classes of a table of answers: which pattern is asked of a set of classes, and how its answers part the set.
--- A set is the list of its classes, ascending.
+-- The plan for the classes of a table of answers: which pattern is asked of a set of classes, and how its answers split
+-- the set. A set is the list of its classes, ascending.
 use Rattle.std.specs.Prelude.{◌≡◌, ℕ, ◌+◌, ◌<◌, ◌≤◌, ◌↔◌, Bool, not, List, [], ◌∷◌, length, filter, count_by, ⊤}
 use Rattle.std.specs.List.{range_with_len}
 use Rattle.net_model.specs.ClassTable.{ClassTable, class_count, class_at, representative, same_bits}
@@ -12,36 +12,37 @@ module _ (t : ClassTable) (table : Answers) where
   abbrev pub class_answer : ℕ → ℕ → List Bool
   class_answer pattern class = answer_to table pattern (representative t class)
 
-  -- whether two classes give one answer to a pattern
+  -- whether two classes give the same answer to a pattern
   abbrev pub answer_alike : ℕ → ℕ → ℕ → Bool
   answer_alike pattern one other = same_bits (class_answer pattern one) (class_answer pattern other)
 
-  -- how many pairs of a set a pattern parts
+  -- how many pairs of a set a pattern splits
   abbrev pub parted_pairs : ℕ → List ℕ → ℕ
   parted_pairs pattern [] = 0
   parted_pairs pattern (lowest ∷ classes) = count_by (λ other. not (answer_alike pattern lowest other)) classes + parted_pairs pattern classes
 
-  -- The pattern parts most pairs of the set, and is the lowest that does.
+  -- The pattern splits most pairs of the set, and is the lowest that does.
   pub record PartsMost (classes : List ℕ) (pattern : ℕ) : Type 0 where
     pub within : pattern < length table.rows
     pub most : (other : ℕ) → other < length table.rows → parted_pairs other classes ≤ parted_pairs pattern classes
     pub lowest : (other : ℕ) → other < pattern → parted_pairs other classes < parted_pairs pattern classes
 
-  -- those of a set that answer a pattern as a class does, and those that answer otherwise
+  -- the classes of a set that give the same answer to a pattern as a given class
   abbrev pub alike_with : ℕ → ℕ → List ℕ → List ℕ
   alike_with pattern class classes = filter (λ other. answer_alike pattern class other) classes
 
+  -- the classes of a set that give another answer to a pattern than a given class
   abbrev pub unlike : ℕ → ℕ → List ℕ → List ℕ
   unlike pattern class classes = filter (λ other. not (answer_alike pattern class other)) classes
 
   abbrev mutual
-    -- The node of a set of one class is that class. Any other asks the pattern that parts most pairs.
+    -- The node of a set of one class is that class. The node of any other set asks the pattern that splits most pairs.
     pub IsPlanned : List ℕ → PlanNode → Type 0
     IsPlanned classes (leaf class) = classes ≡ class ∷ []
     IsPlanned classes (ask pattern branches) = (1 < length classes) × PartsMost classes pattern × ArePlanned pattern classes branches
 
-    -- The first branch has the answer of the set's lowest class, and the node of all classes of the set that give it. The others are
-    -- those of the classes that don't.
+    -- The first branch has the answer of the set's lowest class, and the node of all classes of the set that give it.
+    -- The other branches are those of the classes that don't.
     pub ArePlanned : ℕ → List ℕ → Branches → Type 0
     ArePlanned pattern [] no_branch = ⊤
     ArePlanned pattern [] (branch answer node others) = ⊥
@@ -58,7 +59,8 @@ module _ (t : ClassTable) (table : Answers) where
     pub planned : IsPlanned (range_with_len 0 (class_count t)) node
     pub steps_are : plan.steps ≡ node_steps node
 
-  -- Two numbers have the same answers in the table exactly where they are in one class.
+  -- The classes and the table have the same numbers, and two of these have the same answers in the table exactly if
+  -- they are in the same class.
   pub record IsToldApart : Type 0 where
     pub numbers : length t.class_of ≡ table.numbers
     pub same : (m n : ℕ) → m < table.numbers → n < table.numbers → (class_at t m ≡ class_at t n) ↔ ((pattern : ℕ) → pattern < length table.rows → answer_to table pattern m ≡ answer_to table pattern n)

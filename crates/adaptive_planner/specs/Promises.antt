@@ -1,4 +1,4 @@
--- What the plan of a table keeps.
+-- What the plan of a table promises.
 use Rattle.std.specs.Prelude.{◌≡◌, ℕ, ◌<◌, ◌≤◌, List, All, slice_index_or, [], Bool, length}
 use Rattle.net_model.specs.Circuit.{Circuit}
 use Rattle.net_model.specs.Answer.{IsAnswer}
@@ -16,7 +16,7 @@ pub record IsShort (plan : Plan) : Type 0 where
   pub ways : (root : HasNode plan) → depth_of root.node ≤ plan.patterns
   pub asks : ask_count plan.steps < plan.classes
 
--- Some answers, each to the pattern asked, lead to the class.
+-- Some of the own answers, each to the pattern that is asked, lead to the class.
 pub record LeadsHome (plan : Plan) (IsOwn : Answer → Type 0) (class : ℕ) : Type 0 where
   pub root : HasNode plan
   pub answers : List Answer

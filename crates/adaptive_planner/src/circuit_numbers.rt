@@ -1,4 +1,4 @@
-//! Numbers of what the classes answer, from the simulators, a block of patterns at a time.
+//! Numbers of what the classes answer, from the simulation of a block of patterns at a time.
 
 ghost use Rattle.std.specs.Prelude.{◌≡◌, ◌+◌, ◌<◌, ◌≤◌, ◌^◌, length, map, All, IfOk, OnOk};
 ghost use Rattle.std.specs.List.{range_with_len};
@@ -19,7 +19,7 @@ use std::alloc::{AllocError, Global};
 use table_dicts::{Setting, fill_block};
 use word_sim::{Block, LANES};
 
-/// The numbers of what the leads answer to all patterns. There is a lead for each class, its lowest number.
+/// Returns the numbers of what the leads answer to all patterns. There is a lead for each class, its lowest number.
 pub(crate) fn numbers_of_leads(
     alloc: Global,
     setting: &Setting,
@@ -47,7 +47,7 @@ pub(crate) fn numbers_of_leads(
     Ok(numbers)
 }
 
-// Adds the vectors of the first lanes, so many.
+// Adds the vectors of the first `lanes` lanes.
 fn add_lanes(
     alloc: Global,
     source: &AnswerNumbers,
@@ -70,7 +70,7 @@ fn add_lanes(
     Ok(())
 }
 
-// Adds the vector of a lane, behind those of the lanes before it.
+// Adds the vector of a lane, after those of the lanes before it.
 fn add_lane(
     alloc: Global,
     source: &AnswerNumbers,
@@ -107,7 +107,8 @@ pub(crate) struct LaneNumbers {
 }
 
 impl LaneNumbers {
-    // Adds the next place, by the fault-free answer. Numbers go up in order of the lowest place that gives each answer.
+    // Adds the next place, given the fault-free answer. Numbers ascend in the order of the lowest places that give the
+    // answers.
     fn add(
         &mut self,
         source: &AnswerNumbers,

@@ -1,4 +1,5 @@
-//! What classes answer, by numbers.
+//! `ClassNumbers`: the numbers of what the classes answer, kept for a class only if it doesn't answer as class 0 does,
+//! and the answers by pattern and number, packed.
 
 ghost use Rattle.std.specs.Prelude.{◌≡◌, ◌<◌, ◌∷◌, ◌++◌, [], length, slice_index_or, IfOk, OnOk};
 ghost use Rattle.adaptive_planner.specs.Numbering.{AreClassNumbers, class_number, own_numbers, number_for, numbered_bits};
@@ -7,7 +8,7 @@ use packed_bits::PackedBits;
 use std::alloc::{AllocError, Global};
 use std::marker::Model;
 
-/// The numbers of a class's answers.
+/// The numbers of a class's answers that aren't 0.
 #[derive(Drop)]
 pub(crate) struct OwnNumbers {
     numbers: Vec<u32>,
@@ -47,17 +48,17 @@ impl OwnNumbers {
 /// What each class answers to each pattern. The answer of class 0 has number 0 at each pattern. Each other answer to a
 /// pattern has a number of its own, above 0.
 pub(crate) struct ClassNumbers {
-    // By pattern the place of class 0's answer among all answers.
+    // For each pattern the place of class 0's answer among all answers.
     pub(crate) firsts: Vec<u32>,
-    // All answers, and the pattern of each. The place of an answer is its number, unless it is class 0's. The first one stands
-    // for nothing.
+    // The pattern of each answer, and all answers. The place of an answer is its number, unless it is that of class 0.
+    // The first entry is unused.
     pub(crate) patterns: Vec<u32>,
     pub(crate) answers: Vec<PackedBits>,
     // The numbers of each class that aren't 0, at most one for each pattern.
     pub(crate) own: Vec<OwnNumbers>,
 }
 
-// Written out, it is one step in the proof of each function that lets the numbers go.
+// Written by hand, as it is then one step in the proof of each function that drops the numbers.
 impl Drop for ClassNumbers {
     fn drop(self) {
         let ClassNumbers {
@@ -70,14 +71,14 @@ impl Drop for ClassNumbers {
 }
 
 impl ClassNumbers {
-    /// How many classes there are.
+    /// Returns the number of classes.
     pub(crate) fn classes(&self) -> usize
         ensures { result ≡ length self.now.own.items }
     {
         self.own.len()
     }
 
-    /// The numbers of a class that aren't 0.
+    /// Returns the numbers of a class that aren't 0.
     pub(crate) fn own(&self, class: u32) -> &[u32]
         requires { class < length self.now.own.items }
         ensures { result.now ≡ own_numbers self.now class }
@@ -85,7 +86,7 @@ impl ClassNumbers {
         self.own[class as usize].as_slice()
     }
 
-    /// The number of what a class answers to a pattern.
+    /// Returns the number of what a class answers to a pattern.
     pub(crate) fn number(&self, pattern: u32, class: u32) -> u32
         requires numbers { AreClassNumbers self.now }
         requires class { class < length self.now.own.items }
@@ -101,7 +102,7 @@ impl ClassNumbers {
         0
     }
 
-    /// The answer to a pattern that has a number.
+    /// Returns the answer to `pattern` that has this number.
     pub(crate) fn answer(&self, pattern: u32, number: u32) -> Result<PackedBits, AllocError>
         requires numbers { AreClassNumbers self.now }
         requires pattern { pattern < length self.now.firsts.items }

@@ -1,4 +1,5 @@
-//! How often answers occur in a set of classes, and which pattern parts most pairs of it.
+//! `AnswerCounts`: finds the pattern that splits most pairs of a set of classes, by counts of the answers that aren't
+//! those of class 0.
 
 ghost use Rattle.std.specs.Prelude.{◌≡◌, ◌+◌, ◌<◌, ◌^◌, ℕ, List, [], take, length, All, slice_index, IfOk};
 ghost use Rattle.adaptive_planner.specs.Numbering.{AreClassNumbers};
@@ -7,8 +8,8 @@ ghost use Rattle.adaptive_planner.specs.Counting.{AreCountsOf, IsMostParting, pa
 use crate::class_numbers::ClassNumbers;
 use std::alloc::{AllocError, Global};
 
-/// For each number how many classes of a set have it; and by pattern how many of them don't answer as class 0 does, and how
-/// many pairs of these answer differently. Between sets all counts are 0.
+/// For each number how many classes of a set have it (`often`); for each pattern how many of them don't answer as class
+/// 0 does (`others`), and how many pairs of these answer differently (`apart`). Between sets all counts are 0.
 #[derive(Drop)]
 pub(crate) struct AnswerCounts {
     pub(crate) often: Vec<u32>,
@@ -28,7 +29,7 @@ impl AnswerCounts {
         })
     }
 
-    /// The pattern that parts most pairs of a set of classes, the lowest on a tie.
+    /// Returns the pattern that splits most pairs of a set of classes, the lowest on a tie.
     pub(crate) fn most_parting(&mut self, numbers: &ClassNumbers, set: &[u32]) -> u32
         requires numbers { AreClassNumbers numbers.now }
         requires set { All (λ class. class < length numbers.now.own.items) set.now }
@@ -50,7 +51,7 @@ impl AnswerCounts {
         best
     }
 
-    // Counts what the class at a place of a set answers. Those before it are counted.
+    // Counts what the class at place `at` of a set answers. The classes before it are already counted.
     fn add(&mut self, numbers: &ClassNumbers, set: &[u32], at: usize)
         requires numbers { AreClassNumbers numbers.now }
         requires set { All (λ class. class < length numbers.now.own.items) set.now }
@@ -71,7 +72,7 @@ impl AnswerCounts {
         }
     }
 
-    // Takes back what the class at a place of a set answers. Those behind it aren't counted.
+    // Uncounts what the class at place `at` of a set answers. The classes after it aren't counted.
     fn remove(&mut self, numbers: &ClassNumbers, set: &[u32], at: usize)
         requires numbers { AreClassNumbers numbers.now }
         requires set { All (λ class. class < length numbers.now.own.items) set.now }
@@ -94,7 +95,7 @@ impl AnswerCounts {
         }
     }
 
-    // The pattern that parts most pairs of the set that is counted, the lowest on a tie.
+    // Returns the pattern that splits most pairs of the counted set, the lowest on a tie.
     fn best(&self, numbers: &ClassNumbers, set: &[u32]) -> u32
         requires numbers { AreClassNumbers numbers.now }
         requires few { length set.now < 2 ^ 32 }
@@ -114,8 +115,8 @@ impl AnswerCounts {
         best
     }
 
-    // How many pairs of the set that is counted a pattern parts: those of which one class answers as class 0 does, and those of
-    // which none does.
+    // Returns how many pairs of the counted set a pattern splits: those in which exactly one class answers as class 0
+    // does, and those in which neither does and the answers differ.
     fn parted(&self, numbers: &ClassNumbers, set: &[u32], pattern: u32) -> u64
         requires few { length set.now < 2 ^ 32 }
         requires pattern { pattern < length numbers.now.firsts.items }

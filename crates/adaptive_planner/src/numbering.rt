@@ -1,4 +1,4 @@
-//! Numbers of what classes answer, pattern by pattern.
+//! Builds the numbers of what classes answer, pattern by pattern.
 
 ghost use Rattle.std.specs.Prelude.{◌≡◌, ◌+◌, ◌<◌, ◌≤◌, ◌^◌, ◌∷◌, ◌++◌, [], ℕ, Bool, List, length, replicate, All, slice_index, slice_index_or, IfOk, OnOk};
 ghost use Rattle.adaptive_planner.specs.Numbering.{AreClassNumbers, AreNumbersTo, AddsPattern, HasPattern, HaveMore};
@@ -8,7 +8,7 @@ use packed_bits::PackedBits;
 use std::alloc::{AllocError, Global};
 
 impl ClassNumbers {
-    /// No patterns, and so many classes.
+    /// Returns the numbers of `classes` classes for no patterns.
     pub(crate) fn new(alloc: Global, classes: usize) -> Result<ClassNumbers, AllocError>
         requires { classes < 2 ^ 32 }
         ensures are { IfOk result AreClassNumbers }
@@ -29,7 +29,8 @@ impl ClassNumbers {
         })
     }
 
-    /// Adds a pattern: what the classes answer to it, as places among the answers, which are taken.
+    /// Adds a pattern. `numbers` has for each class the place among `answers` of what the class answers to it; the
+    /// answers are moved out. Returns an error also if 32 bits can't number all answers.
     pub(crate) fn add_pattern(
         &mut self,
         numbers: &[u32],
@@ -49,7 +50,7 @@ impl ClassNumbers {
         Ok(())
     }
 
-    // The same, where 32 bits number the answers.
+    // Does the same, given that 32 bits number the answers.
     fn push_pattern(
         &mut self,
         numbers: &[u32],
@@ -70,7 +71,7 @@ impl ClassNumbers {
     }
 }
 
-// Puts the numbers of classes that aren't 0 behind the others, counted on from a base.
+// Appends `base` plus its number to the own numbers of each class whose number isn't 0.
 fn add_own(own: &mut Vec<OwnNumbers>, numbers: &[u32], base: u32) -> Result<(), AllocError>
     requires one_each { length numbers.now ≡ length own.old.items }
     requires few { All (λ number. base + number < 2 ^ 32) numbers.now }
@@ -85,7 +86,7 @@ fn add_own(own: &mut Vec<OwnNumbers>, numbers: &[u32], base: u32) -> Result<(), 
     Ok(())
 }
 
-// Puts a number so many times behind others.
+// Appends `number` `count` times.
 fn push_times(numbers: &mut Vec<u32>, number: u32, count: usize) -> Result<(), AllocError>
     ensures { OnOk result (numbers.new.items ≡ numbers.old.items ++ replicate count number) }
 {

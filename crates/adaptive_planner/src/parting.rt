@@ -1,4 +1,4 @@
-//! Sets of classes, parted by what they answer to a pattern.
+//! Splits a set of classes by what they answer to a pattern.
 
 ghost use Rattle.std.specs.Prelude.{◌≡◌, ◌+◌, ◌<◌, ◌^◌, ◌∷◌, ◌++◌, [], take, length, All, slice_index, ℕ, IfOk, OnOk, MatchOption};
 ghost use Rattle.adaptive_planner.specs.Numbering.{AreClassNumbers, class_number};
@@ -16,8 +16,8 @@ pub(crate) struct Branch {
     pub(crate) classes: Vec<u32>,
 }
 
-/// The branches for what a set of classes answers to a pattern, in order of their lowest classes. The slots are room for a
-/// place for each number.
+/// Returns the branches for what a set of classes answers to a pattern, in the order of their lowest classes. `slots`
+/// is working space with a place for each number.
 pub(crate) fn part(
     alloc: Global,
     numbers: &ClassNumbers,
@@ -40,7 +40,7 @@ pub(crate) fn part(
     Ok(branches)
 }
 
-// Puts the class at a place of a set into its branch.
+// Puts the class at place `at` of a set into its branch.
 fn put(
     alloc: Global,
     numbers: &ClassNumbers,
@@ -73,7 +73,7 @@ fn put(
     Ok(())
 }
 
-// The place of the branch for a number, if there is one.
+// Returns the place of the branch with this number, if there is one.
 fn place_of(branches: &[Branch], slots: &[u32], number: u32) -> Option<usize>
     requires noted { ArePlacesNoted slots.now branches.now }
     requires number { number < length slots.now }

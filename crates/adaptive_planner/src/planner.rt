@@ -1,4 +1,4 @@
-//! The plan of classes, set by set, in the order of its steps.
+//! Builds the plan of all classes, one set of classes after another, in the order of its steps.
 
 ghost use Rattle.std.specs.Prelude.{◌≡◌, ◌+◌, ◌<◌, ◌^◌, [], length, IfOk, OnOk};
 ghost use Rattle.std.specs.List.{range_with_len};
@@ -21,7 +21,7 @@ pub(crate) struct Planner {
     pub(crate) steps: Steps,
 }
 
-// Written out, it is one step in the proof of each function that lets a planner go.
+// As for `ClassNumbers`.
 impl Drop for Planner {
     fn drop(self) {
         let Planner {
@@ -33,7 +33,7 @@ impl Drop for Planner {
     }
 }
 
-/// The steps of the node for all classes.
+/// Returns the steps of the node for all classes.
 pub(crate) fn steps_of(alloc: Global, numbers: &ClassNumbers) -> Result<Steps, AllocError>
     requires numbers { AreClassNumbers numbers.now }
     requires told { AreAllTold numbers.now }
@@ -46,7 +46,7 @@ pub(crate) fn steps_of(alloc: Global, numbers: &ClassNumbers) -> Result<Steps, A
     Ok(planner.into_steps())
 }
 
-// The first classes, so many.
+// Returns the first `count` classes.
 fn first_classes(alloc: Global, count: u32) -> Result<Vec<u32>, AllocError>
     ensures { IfOk result (λ classes. classes.items ≡ range_with_len 0 count) }
 {
@@ -58,7 +58,7 @@ fn first_classes(alloc: Global, count: u32) -> Result<Vec<u32>, AllocError>
 }
 
 impl Planner {
-    // No steps, and nothing waits.
+    // Returns a planner without steps and without waiting branches.
     fn new(alloc: Global, numbers: &ClassNumbers) -> Result<Planner, AllocError>
         ensures planner { IfOk result (IsPlanner numbers.now) }
         ensures waiting { IfOk result (λ planner. planner.waiting.items ≡ []) }
@@ -72,7 +72,7 @@ impl Planner {
         })
     }
 
-    // Adds the node of a set: its class, or an ask whose branches wait now.
+    // Adds the node of a set: its class if it has only one, else an ask, whose branches then wait.
     fn add_node(
         &mut self,
         alloc: Global,
@@ -91,7 +91,7 @@ impl Planner {
         Ok(())
     }
 
-    // Adds an ask of the pattern that parts most pairs of a set.
+    // Adds an ask of the pattern that splits most pairs of a set.
     fn add_ask(
         &mut self,
         alloc: Global,
@@ -113,7 +113,7 @@ impl Planner {
         Ok(())
     }
 
-    // Adds what waits, branch by branch.
+    // Adds the waiting branches one after another until none waits.
     fn finish(&mut self, alloc: Global, numbers: &ClassNumbers) -> Result<(), AllocError>
         requires numbers { AreClassNumbers numbers.now }
         requires planner { IsPlanner numbers.now self.old }
@@ -127,7 +127,6 @@ impl Planner {
         Ok(())
     }
 
-    // The steps.
     fn into_steps(self) -> Steps
         ensures { result ≡ self.steps }
     {

@@ -1,4 +1,4 @@
-//! The plan for the classes of a table of answers, and for those of a circuit's patterns.
+//! `plan` and `plan_at`: the plan for the classes of a table of answers, and for those of a circuit's patterns.
 
 ghost use Rattle.std.specs.Prelude.{IfOk};
 ghost use Rattle.dict_rows.specs.AnswerTable.{Answers};
@@ -15,7 +15,9 @@ use class_refine::Classes;
 use std::alloc::{AllocError, Global};
 use table_dicts::{AnswerTable, Setting, representatives};
 
-/// The plan for the classes of a table of answers.
+/// Returns the plan for the classes of a table of answers. It is a greedy decision tree: each ask is of the pattern
+/// that splits most pairs of the classes that are left. Returns an error also if 32 bits can't number the different
+/// answers.
 pub fn plan(alloc: Global, table: &AnswerTable, classes: &Classes) -> Result<Plan, AllocError>
     requires { IsToldApart classes.now table.now }
     ensures planned { IfOk result (λ plan. IsPlan classes.now table.now plan) }
@@ -30,7 +32,8 @@ pub fn plan(alloc: Global, table: &AnswerTable, classes: &Classes) -> Result<Pla
     })
 }
 
-/// The plan for the classes of a circuit's patterns, without a table of all answers.
+/// Returns the plan for the classes of a circuit's patterns as `plan` does, but without a table of all answers. Returns
+/// an error in the same cases.
 pub fn plan_at(alloc: Global, setting: &Setting) -> Result<Plan, AllocError>
     requires { IsSetting setting.now }
     ensures planned { IfOk result (λ plan. (t : Answers) → AreAnswersAt setting.now t → IsPlan setting.now.classes.now t plan) }

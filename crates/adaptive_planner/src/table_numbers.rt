@@ -1,4 +1,4 @@
-//! Numbers of what the classes answer by a table.
+//! Numbers of what the classes answer, from a table of answers.
 
 ghost use Rattle.std.specs.Prelude.{◌≡◌, ◌+◌, ◌<◌, ◌^◌, Bool, List, [], length, map, All, slice_index_or, IfOk, OnOk};
 ghost use Rattle.class_refine.specs.Fields.{IsWhole};
@@ -13,7 +13,7 @@ use packed_bits::PackedBits;
 use std::alloc::{AllocError, Global};
 use table_dicts::{AnswerTable, group_rows, representatives};
 
-/// The numbers of what the classes answer.
+/// Returns the numbers of what the classes answer to the patterns of a table.
 pub(crate) fn numbers_of_table(
     alloc: Global,
     table: &AnswerTable,
@@ -42,7 +42,7 @@ pub(crate) fn numbers_of_table(
     Ok(numbers)
 }
 
-// Adds a pattern of the table. The rows are room for the answers.
+// Adds a pattern of the table. `rows` is working space for the answers.
 fn add_row(
     alloc: Global,
     table: &AnswerTable,
@@ -70,7 +70,7 @@ fn add_row(
     Ok(())
 }
 
-// Writes what the leads answer to a pattern, one behind another.
+// Writes what each lead answers to a pattern to a row of its own, in order.
 fn copy_answers(table: &AnswerTable, leads: &[u32], pattern: u32, rows: &mut AnswerRows)
     requires known { All (λ lead. lead < table.now.numbers) leads.now }
     requires pattern { pattern < length table.now.rows }
@@ -83,7 +83,7 @@ fn copy_answers(table: &AnswerTable, leads: &[u32], pattern: u32, rows: &mut Ans
     }
 }
 
-// The rows, each as bits.
+// Returns each row as packed bits.
 fn rows_as_bits(alloc: Global, rows: &AnswerRows) -> Result<Vec<PackedBits>, AllocError>
     ensures { IfOk result (λ all. all.items ≡ rows.now) }
 {
@@ -94,7 +94,7 @@ fn rows_as_bits(alloc: Global, rows: &AnswerRows) -> Result<Vec<PackedBits>, All
     Ok(all)
 }
 
-// A row as bits.
+// Returns a row as packed bits.
 fn row_as_bits(alloc: Global, rows: &AnswerRows, row: usize) -> Result<PackedBits, AllocError>
     requires { row < length rows.now }
     ensures { IfOk result (λ bits. bits ≡ slice_index_or rows.now row []) }

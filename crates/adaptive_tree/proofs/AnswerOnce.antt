@@ -1,4 +1,4 @@
--- A log of answers leads to one outcome, or is refused by one rule at one line, and never both.
+-- A log of answers leads to at most one outcome, or is refused for one rule at one line, and never both.
 use Rattle.std.proofs.Common.{◌≡◌, ◌∙◌, ℕ, suc, ◌+◌, ◌<◌, ◌^◌, refl, ap, sym, subst, arith, append-nil, length-append}
 use Rattle.std.specs.Prelude.{Bool, true, false, if◌then◌else◌, List, [], ◌∷◌, ◌++◌, length, take, map, fold, Option, None, Some, IfSome, option_and_then}
 use Rattle.std.specs.List.{AllByRecursion}

@@ -154,7 +154,7 @@ no_word line other none (step (On x)) spelled e = no_blank line (codes "on") (bi
 no_word line other none (step (Class x)) spelled e = no_blank line (codes "class") (decimal x) none e
 no_word line other none end spelled e = other (sym e)
 
--- a line with another word is none
+-- a line with another word is no line of a plan
 pub other_word : (word fields : Text) → ¬ Contains word 32 → (word ≡ codes "on" → ⊥) → (word ≡ codes "ask" → ⊥) → (word ≡ codes "class" → ⊥) → (word ≡ codes "adapt" → ⊥) → IsNoPlanLine (word ++ 32 ∷ fields)
 unfolding plan_line
 other_word word fields none on ask class adapt (head a b c) spelled e = adapt (sym (cut_once 32 (codes "adapt") word (sizes_text a b c) fields (word_without_blank (codes "adapt") (lit< tt, (lit< tt, (lit< tt, (lit< tt, (lit< tt, tt)))))) none e).0)

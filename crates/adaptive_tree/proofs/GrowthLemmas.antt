@@ -1,4 +1,4 @@
--- What the steps before a place leave open: which step may come next, and what the rules of its values ask.
+-- What the steps before a place leave open: which step may come next, and what the rules require of its values.
 use Rattle.std.proofs.Common.{◌≡◌, ◌∙◌, ℕ, zero, suc, ◌+◌, ◌-◌, ◌<◌, ◌≤◌, refl, ap, sym, subst, arith, append_assoc, append-nil}
 use Rattle.std.specs.Prelude.{Bool, List, [], ◌∷◌, ◌++◌, length, map, Contains}
 use Rattle.adaptive_tree.specs.declared.steps.Step.{Step}
@@ -134,7 +134,7 @@ module _ (positions patterns classes : ℕ) where
       let e = end_begins positions patterns classes (map step steps ++ head a b c ∷ []) begun ∙ lines_behind steps (head a b c) begun.more refl in
       absurd (omega (arith, ap first_is_end e))
 
-  -- a line behind the last one
+  -- a line after the last one
   pub more_misplaced : (steps : List Step) (line : PlanLine) → ¬ BeginPlan ((lines_with steps ++ end ∷ []) ++ line ∷ [])
   more_misplaced steps line b =
       let assoc : ((map step steps ++ end ∷ []) ++ line ∷ []) ++ b.more ≡ (map step steps ++ end ∷ []) ++ (line ∷ b.more) = append_assoc (map step steps ++ end ∷ []) (line ∷ []) b.more in

@@ -23,7 +23,7 @@ number_in_line n small = All-weaker (λ b. 32 < b) IsInLine (λ b above. omega (
 bits_in_line : (bits : List Bool) → All IsInLine (bits_text bits)
 bits_in_line bits = All-weaker (λ b. 32 < b) IsInLine (λ b above. omega (arith, above)) (bits_text bits) (bits_bytes bits)
 
--- a field behind another, with a blank between
+-- a field after another, with a blank between them
 with_blank : (front back : Text) → All IsInLine front → All IsInLine back → All IsInLine (front ++ 32 ∷ back)
 with_blank front back one two = All-append IsInLine front (32 ∷ back) one (All-cons IsInLine 32 back (omega arith) two)
 

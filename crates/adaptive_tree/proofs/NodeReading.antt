@@ -1,4 +1,4 @@
--- A node is read back from its steps in one way, whatever stands behind them.
+-- A node is read back from its steps in one way, whatever comes after them.
 use Rattle.std.proofs.Common.{◌≡◌, ◌∙◌, ℕ, zero, suc, ◌+◌, ◌≤◌, refl, ap, sym, lit≤, arith, append_assoc, length-append}
 use Rattle.std.specs.Prelude.{max, Bool, true, List, [], ◌∷◌, ◌++◌, length, Option, None, Some, IfSome, is_some, unwrap_or, option_map, option_and_then}
 use Rattle.std.proofs.lemmas.Bool.{false≢true}
@@ -6,7 +6,7 @@ use Rattle.adaptive_tree.specs.declared.steps.Step.{Step}
 use Rattle.adaptive_tree.specs.declared.steps.Step.TheVariants.{Ask, On, Class}
 use Rattle.adaptive_tree.specs.PlanNode.{PlanNode, Branches, leaf, ask, no_branch, branch, branch_answers, node_steps, branch_steps, BeginsWithNode}
 
--- ---- a reader, which takes so many steps down
+-- ---- a reader, which goes the given number of steps down
 
 abbrev pub with_pattern : ℕ → Branches × List Step → PlanNode × List Step
 with_pattern pattern x = (ask pattern x.0, x.1)
@@ -14,7 +14,7 @@ with_pattern pattern x = (ask pattern x.0, x.1)
 abbrev pub with_branch : List Bool → PlanNode → Branches × List Step → Branches × List Step
 with_branch answer node x = (branch answer node x.0, x.1)
 
--- so many branches, whose nodes are read so
+-- the given number of branches, whose nodes are read by `read`
 abbrev pub branches_by : (List Step → Option (PlanNode × List Step)) → ℕ → List Step → Option (Branches × List Step)
 branches_by read zero steps = Some (no_branch, steps)
 branches_by read (suc n) [] = None
@@ -62,7 +62,7 @@ one_node node other rest more same =
     let pair : ◌≡◌ {A = PlanNode × List Step} (node, rest) (other, more) = ap (λ o. unwrap_or o (node, rest)) read in
     (ap (λ (x : PlanNode × List Step). x.0) pair, ap (λ (x : PlanNode × List Step). x.1) pair)
 
--- ---- and what is read is what stands there
+-- ---- what is read is what is there
 
 then_if : {A B : Type 0} (P : A → Type 0) (Q : B → Type 0) (o : Option A) (f : A → Option B) → IfSome o P → ((x : A) → P x → IfSome (f x) Q) → IfSome (option_and_then f o) Q
 then_if P Q None f one two = tt

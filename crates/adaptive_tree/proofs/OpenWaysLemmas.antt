@@ -88,7 +88,7 @@ last_less xs m long more =
     let is : set xs m (x - 1) ≡ found.0 ++ (x - 1) ∷ [] = ap (λ (ys : List ℕ). set ys m (x - 1)) found.2 ∙ (ap (λ (k : ℕ). set (found.0 ++ x ∷ []) k (x - 1)) (sym found.1) ∙ set_last found.0 x (x - 1)) in
     ap reverse is ∙ (reverse-append found.0 ((x - 1) ∷ []) ∙ (sym (more_than_one x (reverse found.0) more) ∙ ap node_ended (sym was)))
 
--- the last of so many is one less
+-- the last of the first `count` is one less
 pub end_less : (items kept : List ℕ) (count x y : ℕ) → count ≤ length items → 0 < count → kept ≡ take count items → 1 < x → x ≡ get_or items (count - 1) x → y ≡ get_or kept (count - 1) y → node_ended (reverse (take count items)) ≡ node_ended (reverse items)
     → reverse (set kept (count - 1) (y - 1)) ≡ node_ended (reverse items)
 end_less items kept count x y within some kept_is more x_is y_is same =

@@ -15,9 +15,9 @@ use Rattle.adaptive_tree.specs.declared.outcome.Outcome.TheVariants as outcome
 use Rattle.adaptive_tree.specs.Walk.{next_node, branch_for, outcome_at}
 use Rattle.adaptive_tree.specs.Places.{StandsAt, HasBranchesAt, IsWalkAt, IsWalkSomewhere, nodes_behind}
 
--- ---- behind a node
+-- ---- after a node
 
--- what stands behind so many nodes, whose branches stand between
+-- the steps after the given number of nodes, which may have steps of branches between them
 pub behind_nodes : ℕ → List Step → List Step
 behind_nodes zero steps = steps
 behind_nodes (suc n) [] = []
@@ -97,7 +97,7 @@ place_low steps place at walk is = by_node walk.node (subst (λ (p : Option ℕ)
 
 -- ---- a step at a place
 
--- the steps from a place on begin with the one there
+-- the steps starting at a place begin with the one there
 pub drop_at : (steps : List Step) (at : ℕ) (s : Step) → at < length steps → s ≡ slice_index_or steps at s → drop at steps ≡ s ∷ drop (at + 1) steps
 drop_at [] at s low is = absurd (omega (arith, low))
 drop_at (x ∷ steps) zero s low is = ap (λ (y : Step). y ∷ steps) (sym is)
@@ -133,7 +133,7 @@ bits_agree bits digits e = (same_bits-Decides bits (digit_bits digits)).1 e
 
 -- ---- branches that are left to be compared
 
--- So many of the branches are left from a place on, and none before it is for the answer.
+-- `left` of the branches are left, starting at a place, and none before it is for the answer.
 pub record AreLeft (steps : List Step) (at left : ℕ) (bits : List Bool) (branches : Branches) : Type 0 where
   pub others : Branches
   pub rest : List Step
@@ -196,7 +196,7 @@ module _ (steps : List Step) (at left : ℕ) (bits : List Bool) (branches : Bran
       let found : branch_for bits branches ≡ Some next.node = next.same ∙ ap (λ (b : Bool). if b then Some next.node else branch_for bits next.others) e in
       subst (IsWalkAt steps (Some (at + 1))) (sym found) (record { rest = branch_steps next.others ++ next.rest; there = standing.1 })
 
-  -- the branch isn't, and the next one stands behind its node
+  -- the branch isn't for the answer, and the next one comes after its node
   pub fewer_left : ((answer : List Bool) → s ≡ On answer → false ≡ same_bits answer bits) → (later : ℕ) → ((given : BeginsWithNode (drop (at + 1) steps)) → drop later steps ≡ given.rest) → (fewer : ℕ) → fewer + 1 ≡ left → AreLeft steps later fewer bits branches
   fewer_left other later behind fewer less = record {
     others = next.others;
@@ -213,7 +213,7 @@ none_left steps at bits branches are = subst (IsWalkAt steps None) (sym (are.sam
     by_others no_branch e = refl
     by_others (branch answer node others) e = absurd (omega (arith, e))
 
--- ---- what stands at the place of a walk
+-- ---- what is at the place of a walk
 
 by_walk : (steps : List Step) (at : ℕ) (s : Step) → s ≡ slice_index_or steps at s → (node : PlanNode) → StandsAt steps at node → outcome_of_step s ≡ outcome_at (Some node)
 by_walk steps at s is (leaf class) there =
@@ -239,7 +239,7 @@ no_place steps place is node walk = by_node node (subst (λ (p : Option ℕ). Is
     by_node None none = refl
     by_node (Some n) there = absurd there
 
--- an ask at the place of a walk has so many branches behind it
+-- an ask at the place of a walk is followed by its number of branches
 pub branches_at : (steps : List Step) (place : Option ℕ) (at : ℕ) (s : Step) (pattern branches : ℕ) → place ≡ Some at → s ≡ slice_index_or steps at s → s ≡ Ask pattern branches → (node : Option PlanNode) → IsWalkAt steps place node
     → (b : Branches) × (node ≡ Some (ask pattern b)) × ((given : HasBranchesAt steps (at + 1) branches) × (given.branches ≡ b))
 branches_at steps place at s pattern count is here asks node walk = by_node node (subst (λ (p : Option ℕ). IsWalkAt steps p node) is walk)

@@ -105,7 +105,7 @@ asked_from (o ∷ os) (a ∷ above) p are among = by_either (in_first_or_later a
 
 -- ---- what is next
 
--- where a node is next, what holds before any node holds
+-- if a node is next, what holds before every node holds here
 at_node : (n : Next) (so_far : Growth) → IsNextOf n so_far → is_node n ≡ true → (P : Growth → Type 0) → ((above : List AskAbove) → P (before_node above)) → P so_far
 at_node next.Node (before_node above) is e P all = all above
 at_node next.Node (before_branch above pattern count whole) is e P all = absurd is

@@ -1,4 +1,4 @@
--- Lines of a plan that are read so far, and what is refused behind them.
+-- Lines of a plan that have been read so far, and what is refused after them.
 use Rattle.std.proofs.Common.{◌≡◌, ◌∙◌, ℕ, ◌+◌, ◌<◌, ◌≤◌, refl, ap, sym, subst, arith, append_assoc, append-nil, length-append, inl, inr}
 use Rattle.std.specs.Borrow.{Bor}
 use Rattle.std.specs.Prelude.{◌⊎◌, List, [], ◌∷◌, ◌++◌, length, map, take, flat_map, true, false}
@@ -27,7 +27,7 @@ use Rattle.adaptive_tree.proofs.ReadingSteps.{one_more_line}
 use Rattle.adaptive_tree.proofs.GrowthLemmas.{step_misplaced, head_misplaced, end_misplaced, more_misplaced, not_whole, end_begins_plan, head_begins}
 use Rattle.adaptive_tree.proofs.ReaderLemmas.{right_place, right_values, at_end, not_grown}
 
--- ---- what is refused behind lines
+-- ---- what is refused after lines
 
 pub ends_early : (plan : Plan) (rest : Text) → length rest ≡ 0 → PlanRestRefused (lines_so_far plan) rest Order
 ends_early plan rest none = cut_short (nil_from_length rest none) (not_whole plan.positions plan.patterns plan.classes plan.steps) refl
@@ -36,7 +36,7 @@ pub wrong_line_refused : (plan : Plan) (rest : Text) (f : Form) (more : Text) (k
 wrong_line_refused plan rest f more kind first (may_not_come place order) = misplaced (form_line f) more first.begins place order
 wrong_line_refused plan rest f more kind first (has_wrong_values place values value) = wrong (form_line f) more first.begins place values value
 
--- what a form is where it is none of the others
+-- what a form is if it is none of the others
 abbrev IsHead : Form → Type 0
 IsHead f = (a : ℕ) × (b : ℕ) × (c : ℕ) × (f ≡ form.Head a b c)
 
@@ -65,7 +65,7 @@ grown_step plan root s b =
 behind_grown : (plan : Plan) (root : HasNode plan) (rest : Text) (f g : Form) (more : Text) → IsFirstForm rest f more → f ≡ g → ¬ BeginPlan (lines_so_far plan ++ form_line g ∷ []) → PlanRestRefused (lines_so_far plan) rest Order
 behind_grown plan root rest f g more first is blocked = misplaced (form_line f) more first.begins (subst (λ (x : Form). ¬ BeginPlan (lines_so_far plan ++ form_line x ∷ [])) (sym is) blocked) refl
 
--- behind a whole node only the last line may come
+-- after a whole node only the last line may come
 pub only_end : (plan : Plan) (root : HasNode plan) (rest : Text) (f : Form) (more : Text) → IsFirstForm rest f more → IsHead f ⊎ (IsAsk f ⊎ (IsOn f ⊎ IsClass f)) → PlanRestRefused (lines_so_far plan) rest Order
 only_end plan root rest f more first (inl is) = behind_grown plan root rest f (form.Head is.0 is.1 is.2) more first is.3 (head_misplaced plan.positions plan.patterns plan.classes plan.steps is.0 is.1 is.2)
 only_end plan root rest f more first (inr (inl is)) = behind_grown plan root rest f (form.Ask is.0 is.1) more first is.2 (grown_step plan root (Ask is.0 is.1))
@@ -99,7 +99,7 @@ only_head rest f more first (inr (inl is)) = not_first rest f (form.On is.0) mor
 only_head rest f more first (inr (inr (inl is))) = not_first rest f (form.Class is.0) more first is.1 (λ e. omega (arith, e))
 only_head rest f more first (inr (inr (inr is))) = not_first rest f form.End more first is (λ e. omega (arith, e))
 
--- ---- lines that are read so far
+-- ---- lines that have been read so far
 
 pub record IsReadSoFar (text : Text) (lines : List PlanLine) (number : ℕ) (rest : Text) : Type 0 where
   pub right : AreRightPlanLines lines

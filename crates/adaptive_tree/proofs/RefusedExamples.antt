@@ -152,7 +152,7 @@ no_line_behind = at_line (front 19) _ (lit≤ tt) (right_front 19 refl refl) ref
 
 -- ---- more branches than there can be
 
--- so many branches, each with no bits
+-- the given number of branches, each with no bits
 many : ℕ → Branches
 many zero = no_branch
 many (suc n) = branch [] (leaf 0) (many n)
@@ -162,7 +162,7 @@ unfolding many
 length-many zero = refl
 length-many (suc n) = ap suc (length-many n)
 
--- the branches of the plan, and so many more
+-- the branches of the plan, and the given number of further ones
 abbrev with_many : ℕ → PlanNode
 with_many n = ask 1 (branch zero_bit (ask 2 (branch zero_bit inner_node (branch one_bit (leaf 3) no_branch)))
     (branch one_bit (ask 0 (branch one_bit (leaf 1) (branch zero_bit (leaf 2) no_branch))) (many n)))

@@ -1,4 +1,4 @@
--- Where the values of a plan are right down its tree, each of its lines is right behind those before it.
+-- If the values of a plan are right down its tree, each of its lines is right after those before it.
 use Rattle.std.proofs.Common.{◌≡◌, ◌∙◌, ℕ, zero, suc, ◌+◌, ◌<◌, refl, ap, sym, subst, arith, append_assoc, append-nil, length-append, inl, inr}
 use Rattle.std.specs.Prelude.{Bool, true, false, not, ◌&&◌, ◌||◌, ◌==◌, List, [], ◌∷◌, ◌++◌, length, ◌⊎◌, Option, None, Some, IfSome, option_map, option_and_then, Contains, map, take}
 use Rattle.std.specs.Option.{option_map_or}
@@ -46,7 +46,7 @@ mutual
   branches_have_none (branch other node others) rest answer =
       ap (λ steps. has_branch steps answer) (append_assoc (node_steps node) (branch_steps others) rest) ∙ (node_has_none node (branch_steps others ++ rest) answer ∙ branches_have_none others rest answer)
 
--- ---- what is read behind whole branches
+-- ---- what is read after whole branches
 
 -- No node is read.
 abbrev pub Unread : List Step → Type 0
@@ -90,11 +90,11 @@ no_answers (branch other node others) answer steps unread fuel (suc n) =
 
 -- ---- what the steps before a place leave open
 
--- Asks among these steps that are open, whatever follows, ask these patterns.
+-- Whatever follows, the asks among these steps that are open then ask only these patterns.
 abbrev pub OnlyAsk : List Step → List ℕ → Type 0
 OnlyAsk front above = (rest : List Step) (pattern : ℕ) → asked_above (front ++ rest) pattern ≡ true → Contains above pattern ⊎ (asked_above rest pattern ≡ true)
 
--- Where what follows isn't whole, no ask among these steps has a branch for an answer.
+-- If no node is read from what follows, no ask among these steps has a branch for an answer.
 abbrev pub NoneHas : List Step → Type 0
 NoneHas front = (rest : List Step) → Unread rest → (answer : List Bool) → has_branch (front ++ rest) answer ≡ true → has_branch rest answer ≡ true
 
@@ -138,7 +138,7 @@ pub among_in : (answers : List (List Bool)) (answer : List Bool) → has_answer 
 among_in [] answer e = absurd (false≢true e)
 among_in (first ∷ answers) answer e = first_or_later answers first answer (among_in answers answer) (either (same_bits answer first) (has_answer answers answer) e)
 
--- ---- behind an ask and some whole branches, and behind the next branch's line
+-- ---- after an ask and some whole branches, and after the next branch's line
 
 pub on_steps : (front : List Step) (pattern n : ℕ) (whole : Branches) (answer : List Bool) (rest : List Step)
     → ((front ++ ask_steps pattern n whole) ++ On answer ∷ []) ++ rest ≡ front ++ Ask pattern n ∷ (branch_steps whole ++ On answer ∷ rest)
@@ -206,7 +206,7 @@ pub pushed_place : (front : List Step) (pattern n : ℕ) (whole : Branches) (ans
 pushed_place front pattern n whole answer node =
     ap (λ steps. front ++ Ask pattern n ∷ steps) (push_steps whole answer node) ∙ sym (on_steps front pattern n whole answer (node_steps node))
 
--- ---- each step is right behind those before it
+-- ---- each step is right after those before it
 
 module _ (plan : Plan) where
   abbrev pub begun_with : List Step → Plan
@@ -258,7 +258,7 @@ module _ (plan : Plan) where
           right_both (place ++ On answer ∷ []) (node_steps node) (branch_steps others) first (subst (λ f. RightFrom f (branch_steps others)) (pushed_place front pattern n whole answer node) rest),
         )
 
-  -- ---- and so is each line
+  -- ---- each line is right after those before it
 
   line_steps : (steps front : List Step) (before : List PlanLine) → plan_begun before ≡ begun_with front → RightFrom front steps → (at : ℕ) → at < length (map step steps ++ end ∷ [])
       → IsRightPlanLine (before ++ take at (map step steps ++ end ∷ [])) (line_at (map step steps ++ end ∷ []) at)

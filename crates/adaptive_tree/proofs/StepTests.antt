@@ -1,4 +1,4 @@
--- Tests of the rules of steps and lines: where one passes, the rule is met.
+-- Tests of the rules of steps and lines: if one passes, the rule is met.
 use Rattle.std.proofs.Common.{◌≡◌, ◌∙◌, ℕ, zero, suc, ◌<◌, ◌≤◌, refl, ap, sym, subst, arith, append_assoc, append-nil, length-append}
 use Rattle.std.specs.Prelude.{◌^◌, is_some, Bool, true, false, not, ◌&&◌, ◌||◌, List, [], ◌∷◌, ◌++◌, length, map, take, Contains, slice_index_or, Option, None, Some, option_map, option_and_then, nat_lt, ◌==◌}
 use Rattle.std.specs.List.{list_all, AllByRecursion}
@@ -20,7 +20,7 @@ use Rattle.adaptive_tree.proofs.NodeReading.{node_by, begins_node, begins_by, ta
 
 -- ---- asks above
 
--- whether an ask of a pattern stands among these steps whose node isn't whole
+-- whether these steps have an ask of a pattern whose node isn't whole
 abbrev pub asked_above : List Step → ℕ → Bool
 asked_above [] pattern = false
 asked_above (On answer ∷ steps) pattern = asked_above steps pattern
@@ -141,7 +141,7 @@ right_line before (head positions patterns classes) e = tt
 right_line before (step s) e = right_step (plan_begun before) s e
 right_line before end e = tt
 
--- whether each of so many lines, from one on, is right behind those before it
+-- whether each of the second lines is right after the first lines and those before it
 abbrev pub are_right : List PlanLine → List PlanLine → Bool
 are_right before [] = true
 are_right before (line ∷ lines) = is_right_line before line && are_right (before ++ line ∷ []) lines
@@ -202,7 +202,7 @@ steps_in (head positions patterns classes ∷ lines) = []
 steps_in (step s ∷ lines) = s ∷ steps_in lines
 steps_in (end ∷ lines) = []
 
--- what is behind the steps that lines begin with
+-- the lines after the steps that lines begin with
 abbrev pub behind_steps : List PlanLine → List PlanLine
 behind_steps [] = []
 behind_steps (head positions patterns classes ∷ lines) = head positions patterns classes ∷ lines
@@ -221,7 +221,7 @@ pub end_of_plan : (steps : List Step) (lines : List PlanLine) → behind_steps l
 end_of_plan [] lines e = e
 end_of_plan (s ∷ steps) lines e = end_of_plan steps lines e
 
--- the steps of a plan that begins so, and what is behind them
+-- the steps of a plan that begins so, and what comes after them
 pub steps_begin : (positions patterns classes : ℕ) (lines : List PlanLine) (b : BeginPlan (head positions patterns classes ∷ lines)) → node_steps b.node.node ≡ steps_in (lines ++ b.more)
 steps_begin positions patterns classes lines b =
     sym b.node.steps_are ∙ (sym (steps_of_plan b.plan.steps (end ∷ []) refl) ∙ ap (λ all. steps_in (behind_first all)) b.begins)
@@ -233,7 +233,7 @@ end_begins positions patterns classes lines b =
 pub some_none : {A : Type 0} (x : A) → Some x ≡ None → ⊥
 some_none x e = false≢true (sym (ap is_some e))
 
--- where no node is read no node stands; a node of the steps at hand is no more than five steps down
+-- if no node is read, there is none; a node of the steps at hand is at most five steps down
 pub no_node : (node : PlanNode) (steps : List Step) → node_steps node ≡ steps → ((n : ℕ) → node_by (suc (suc (suc (suc (suc n))))) steps ≡ None) → ⊥
 no_node node steps are none =
     let n : ℕ = height_of node in

@@ -1,4 +1,4 @@
--- A text is that of one plan, or refused by one rule at one line, and never both.
+-- A text is that of at most one plan, or is refused for one rule at one line, and never both.
 use Rattle.std.proofs.Common.{◌≡◌, ◌∙◌, ℕ, ◌+◌, ◌<◌, refl, ap, sym, subst, arith, append_assoc, append-nil, length-append}
 use Rattle.std.specs.Prelude.{List, [], ◌∷◌, ◌++◌, length, take, All}
 use Rattle.std.specs.List.{AllByRecursion}
@@ -19,7 +19,7 @@ use Rattle.text_fields.proofs.Cuts.{not_empty}
 by_recursion : (lines : List PlanLine) → All HasPlanSpelling lines → AllByRecursion HasPlanSpelling lines
 by_recursion lines all = recursion_from_All HasPlanSpelling lines all
 
--- ---- lines behind others
+-- ---- lines after others
 
 begin_less : (before : List PlanLine) (line : PlanLine) (later : List PlanLine) → BeginPlan (before ++ line ∷ later) → BeginPlan (before ++ line ∷ [])
 begin_less before line later b = record {

@@ -54,7 +54,7 @@ ask_zero = record { root = and_root; answers = first_one; right = one_right 1 an
 ask_one : LeadsTo and_plan [] (outcome.Ask 1)
 ask_one = record { root = and_root; answers = []; right = none_right 1 and_node; text_is = refl; short = lit≤ tt; end_is = refl }
 
--- the pattern that an outcome asks, and one more; 0 for another outcome
+-- the pattern that an outcome asks, plus 1; 0 for any other outcome
 abbrev asked_pattern : Outcome → ℕ
 asked_pattern (outcome.Class class) = 0
 asked_pattern (outcome.Ask pattern) = suc pattern

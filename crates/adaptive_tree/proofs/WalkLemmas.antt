@@ -17,7 +17,7 @@ use Rattle.adaptive_tree.specs.Places.{IsWalkAt, IsAnswerLine}
 abbrev pub bits_in : List Answer → List (List Bool)
 bits_in answers = map (λ answer. answer.bits) answers
 
--- Some right answers stand before the rest, and the walk has come to where they lead.
+-- Some right answers come before `rest`, and the walk has come to where they lead.
 pub record IsWalkSoFar (plan : Plan) (root : PlanNode) (text : Text) (place : Option ℕ) (number : ℕ) (rest : Text) : Type 0 where
   pub answers : List Answer
   pub right : AreRightAnswers plan.positions root answers
@@ -36,7 +36,7 @@ walk_begins plan root text = record {
   room = omega arith;
 }
 
--- ---- one answer more
+-- ---- one more answer
 
 last_or_before : (at n : ℕ) → at < n + 1 → (at ≡ n) ⊎ (at < n)
 last_or_before at n low = grind (arith, low)

@@ -1,4 +1,4 @@
--- The lines of a plan as a reader holds them: an answer is the digits of its line.
+-- The lines of a plan as a reader holds them: an answer is held as the digits of its line.
 use Rattle.std.specs.Prelude.{◌≡◌, ℕ, ◌∷◌, ◌++◌, codes, decimal, ⊤}
 use Rattle.text_fields.specs.Fields.{Text, IsNumber, digit_bits, AreDigitsOf}
 use Rattle.adaptive_tree.specs.declared.line.Form.{Form}
@@ -14,7 +14,7 @@ form_line (form.On digits) = step (On (digit_bits digits.now))
 form_line (form.Class class) = step (Class class)
 form_line form.End = end
 
--- An answer is digits.
+-- The answer of the form, if it has one, is digits.
 abbrev pub HasDigits : Form → Type 0
 HasDigits (form.Head positions patterns classes) = ⊤
 HasDigits (form.Ask pattern branches) = ⊤
@@ -22,27 +22,27 @@ HasDigits (form.On digits) = AreDigitsOf (digit_bits digits.now) digits.now
 HasDigits (form.Class class) = ⊤
 HasDigits form.End = ⊤
 
--- The form is that of a line.
+-- The form is that of the line, which can be written.
 pub record IsFormOf (line : Text) (f : Form) : Type 0 where
   pub spelled : HasPlanSpelling (form_line f)
   pub digits : HasDigits f
   pub line_is : plan_line (form_line f) ≡ line
 
--- The form is that of the line with which the text begins, and the rest stands behind it.
+-- The form is that of the line with which the text begins, and `rest` is the text after it.
 pub record IsFirstForm (text : Text) (f : Form) (rest : Text) : Type 0 where
   pub begins : BeginsWithPlanLine text (form_line f) rest
   pub digits : HasDigits f
 
--- No line of a plan is spelled so.
+-- The text is the spelling of no line of a plan.
 abbrev pub IsNoPlanLine : Text → Type 0
 IsNoPlanLine text = (line : PlanLine) → HasPlanSpelling line → plan_line line ≡ text → ⊥
 
--- ---- numbers behind one another
+-- ---- numbers one after another
 
 abbrev pub pair_text : ℕ → ℕ → Text
 pair_text m n = decimal m ++ 32 ∷ decimal n
 
--- the sizes of a plan, behind the version
+-- the version and the sizes of a plan
 abbrev pub sizes_text : ℕ → ℕ → ℕ → Text
 sizes_text positions patterns classes = codes "1" ++ 32 ∷ (decimal positions ++ 32 ∷ pair_text patterns classes)
 

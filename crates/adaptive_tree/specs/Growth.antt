@@ -8,7 +8,8 @@ use Rattle.adaptive_tree.specs.PlanNode.{PlanNode, Branches, branch_answers, nod
 
 -- ---- steps so far
 
--- an ask above a place: how many branches it has, those that are whole, and the answer of the one in which the place is
+-- an ask above a place: its pattern, the number of its branches, those that are whole, and the answer of the one that
+-- contains the place
 pub record AskAbove : Type 0 where
   pub pattern : ℕ
   pub count : ℕ
@@ -24,7 +25,8 @@ abbrev pub steps_above : List AskAbove → List Step
 steps_above [] = []
 steps_above (ask ∷ above) = (steps_above above ++ ask_steps ask.pattern ask.count ask.whole) ++ On ask.answer ∷ []
 
--- A node is next, below these asks; a branch of the ask of a pattern, below the others; or nothing, since the node is whole.
+-- What comes next: a node, below these asks; a branch of an ask of this pattern, below these asks; or nothing, as the
+-- node is whole.
 pub data Growth : Type 0 where
   before_node : List AskAbove → Growth
   before_branch : List AskAbove → (pattern count : ℕ) (whole : Branches) → Growth
@@ -35,7 +37,7 @@ steps_so_far (before_node above) = steps_above above
 steps_so_far (before_branch above pattern count whole) = steps_above above ++ ask_steps pattern count whole
 steps_so_far (grown node) = node_steps node
 
--- Each ask has room for the branch in which the place is.
+-- Each ask has fewer whole branches than branches, which leaves room for the one that contains the place.
 abbrev pub HaveRoom : List AskAbove → Type 0
 HaveRoom [] = ⊤
 HaveRoom (ask ∷ above) = (length (branch_answers ask.whole) < ask.count) × HaveRoom above
@@ -45,7 +47,7 @@ IsRoomy (before_node above) = HaveRoom above
 IsRoomy (before_branch above pattern count whole) = (length (branch_answers whole) < count) × HaveRoom above
 IsRoomy (grown node) = ⊤
 
--- ---- what may stand next
+-- ---- what may come next
 
 abbrev pub MayComeFirst : Step → Type 0
 MayComeFirst (Ask pattern branches) = ⊤

@@ -15,54 +15,54 @@ use Rattle.adaptive_tree.specs.RightNode.{IsRightNode}
 use Rattle.adaptive_tree.specs.Refusal.{PlanRefused}
 use Rattle.adaptive_tree.specs.AnswerLog.{LeadsTo, WalkRefused}
 
--- steps begin with one node at most
+-- steps begin with at most one node
 abbrev pub OneNode : Type 0
 OneNode = (node other : PlanNode) (rest more : List Step) → node_steps node ++ rest ≡ node_steps other ++ more → (node ≡ other) × (rest ≡ more)
 
--- where the values of a plan are right down its tree, it is well formed
+-- a plan is well formed if its lines can be written and its values are right down its tree
 abbrev pub RightTreesAreWellFormed : Type 0
 RightTreesAreWellFormed = (plan : Plan) (root : HasNode plan) → All HasPlanSpelling (plan_lines plan) → IsRightNode plan [] root.node → IsWellFormed plan
 
--- and in a well-formed plan they are
+-- the values of a well-formed plan are right down its tree
 abbrev pub WellFormedTreesAreRight : Type 0
 WellFormedTreesAreRight = (plan : Plan) (root : HasNode plan) → IsWellFormed plan → IsRightNode plan [] root.node
 
--- so no way of it has more asks than there are patterns
+-- no way of a well-formed plan has more asks than there are patterns
 abbrev pub WaysAreShort : Type 0
 WaysAreShort = (plan : Plan) (root : HasNode plan) → IsWellFormed plan → depth_of root.node ≤ plan.patterns
 
 -- ---- texts
 
--- a text is that of one plan
+-- a text is that of at most one plan
 abbrev pub OnePlanReading : Type 0
 OnePlanReading = (text : Text) (plan other : Plan) → IsTextOf plan text → IsTextOf other text → plan ≡ other
 
--- a text that is refused is no plan's
+-- a text that is refused is that of no plan
 abbrev pub RefusedPlanIsWrong : Type 0
 RefusedPlanIsWrong = (text : Text) (plan : Plan) (kind : PlanKind) (line : ℕ) → PlanRefused text kind line → ¬ IsTextOf plan text
 
--- a text is refused by one rule at one line
+-- a text is refused for at most one rule, at one line
 abbrev pub OnePlanRefusal : Type 0
 OnePlanRefusal = (text : Text) (kind other : PlanKind) (line number : ℕ) → PlanRefused text kind line → PlanRefused text other number → (kind ≡ other) × (line ≡ number)
 
--- the text of a well-formed plan is read back, unless it is too long
+-- the text of a well-formed plan is read as this plan, unless it is too long
 abbrev pub WrittenIsRead : Type 0
 WrittenIsRead = (plan : Plan) → IsWellFormed plan → length (plan_text plan) ≤ text_limit → IsTextOf plan (plan_text plan)
 
--- and it is refused for its length alone
+-- the text of a well-formed plan is refused only for its length
 abbrev pub RefusedForLength : Type 0
 RefusedForLength = (plan : Plan) (kind : PlanKind) (line : ℕ) → IsWellFormed plan → PlanRefused (plan_text plan) kind line → kind ≡ TooLong
 
 -- ---- logs
 
--- a log leads to one outcome
+-- a log leads to at most one outcome in a well-formed plan
 abbrev pub OneOutcome : Type 0
 OneOutcome = (plan : Plan) (text : Text) (end other : Outcome) → IsWellFormed plan → LeadsTo plan text end → LeadsTo plan text other → end ≡ other
 
--- a log that is refused leads nowhere, not even to where the plan has no branch
+-- a log that is refused leads to no outcome, not even to `Unknown`
 abbrev pub RefusedWalkIsWrong : Type 0
 RefusedWalkIsWrong = (plan : Plan) (text : Text) (end : Outcome) (kind : LogKind) (line : ℕ) → IsWellFormed plan → WalkRefused plan text kind line → ¬ LeadsTo plan text end
 
--- a log is refused by one rule at one line
+-- a log is refused for at most one rule, at one line
 abbrev pub OneWalkRefusal : Type 0
 OneWalkRefusal = (plan : Plan) (text : Text) (kind other : LogKind) (line number : ℕ) → IsWellFormed plan → WalkRefused plan text kind line → WalkRefused plan text other number → (kind ≡ other) × (line ≡ number)

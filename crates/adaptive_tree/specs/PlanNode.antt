@@ -9,7 +9,7 @@ mutual
     leaf : (class : ℕ) → PlanNode
     ask : (pattern : ℕ) (branches : Branches) → PlanNode
 
-  -- in order, each with its answer and its node
+  -- branches in order, each with its answer and its node
   pub data Branches : Type 0 where
     no_branch : Branches
     branch : (answer : List Bool) (node : PlanNode) (others : Branches) → Branches
@@ -19,7 +19,7 @@ abbrev pub branch_answers : Branches → List (List Bool)
 branch_answers no_branch = []
 branch_answers (branch answer node others) = answer ∷ branch_answers others
 
--- a node as steps: behind an ask come its branches, and behind a branch its node
+-- a node as steps: after an ask come its branches, and after a branch its node
 abbrev mutual
   pub node_steps : PlanNode → List Step
   node_steps (leaf class) = Class class ∷ []
@@ -29,13 +29,13 @@ abbrev mutual
   branch_steps no_branch = []
   branch_steps (branch answer node others) = On answer ∷ (node_steps node ++ branch_steps others)
 
--- The steps begin with a node, and these are behind it.
+-- The steps begin with those of `node`, and `rest` are the steps after it.
 pub record BeginsWithNode (steps : List Step) : Type 0 where
   pub node : PlanNode
   pub rest : List Step
   pub steps_are : steps ≡ node_steps node ++ rest
 
--- The steps of the plan are one node, and nothing behind it.
+-- The steps of the plan are exactly those of one node.
 pub record HasNode (plan : Plan) : Type 0 where
   pub node : PlanNode
   pub steps_are : plan.steps ≡ node_steps node
@@ -47,11 +47,11 @@ is_ask (Ask pattern branches) = true
 is_ask (On answer) = false
 is_ask (Class class) = false
 
--- how many asks there are
+-- the number of asks among the steps
 abbrev pub ask_count : List Step → ℕ
 ask_count steps = count_by is_ask steps
 
--- the greatest number of asks on one way
+-- the greatest number of asks on one way down from a node
 abbrev mutual
   pub depth_of : PlanNode → ℕ
   depth_of (leaf class) = 0

@@ -25,7 +25,7 @@ plan_line_fields end = codes "end" ∷ []
 unfoldable pub plan_line : PlanLine → Text
 plan_line line = join_with_byte 32 (plan_line_fields line)
 
--- each line with its LF
+-- the text of lines, each with its LF
 abbrev pub plan_lines_text : List PlanLine → Text
 plan_lines_text lines = flat_map (λ line. plan_line line ++ 10 ∷ []) lines
 

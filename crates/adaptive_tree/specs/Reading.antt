@@ -28,7 +28,7 @@ use Rattle.adaptive_tree.specs.Growth.{AskAbove, Growth, before_node, before_bra
 abbrev pub digits_order : Bor (List ℕ) → Bor (List ℕ) → Ordering
 digits_order a b = slice_cmp nat_cmp a.now b.now
 
--- The open ask is one of a pattern with so many branches, of which those for these answers have begun.
+-- The open ask is of this pattern and has `count` branches, and those for the answers `begun` have begun.
 pub record IsOpenAsk (o : OpenAsk) (pattern count : ℕ) (begun : List (List Bool)) : Type 0 where
   pub pattern_is : o.pattern ≡ pattern
   pub left_is : o.left + length begun ≡ count
@@ -50,17 +50,17 @@ HasOpenAsks open_asks (grown node) = open_asks ≡ []
 abbrev pub asks_pattern : List OpenAsk → ℕ → Bool
 asks_pattern open_asks pattern = list_any (λ o. o.pattern == pattern) open_asks
 
--- No two open asks have one pattern.
+-- No two open asks have the same pattern.
 abbrev pub AskEachOnce : List OpenAsk → Type 0
 AskEachOnce [] = ⊤
 AskEachOnce (o ∷ open_asks) = (asks_pattern open_asks o.pattern ≡ false) × AskEachOnce open_asks
 
--- The set has the patterns of the open asks.
+-- The set has exactly the patterns of the open asks, which are all different.
 pub record IsAskedSet (asked : BTreeSet ℕ) (open_asks : List OpenAsk) : Type 0 where
   pub has : (pattern : ℕ) → contains nat_cmp asked pattern ≡ asks_pattern open_asks pattern
   pub once : AskEachOnce open_asks
 
--- One branch more has begun, for the answer of these digits.
+-- One more branch has begun, for the answer of these digits.
 pub record HasBegun (old new : OpenAsk) (digits : Bor (List ℕ)) : Type 0 where
   pub pattern_is : new.pattern ≡ old.pattern
   pub left_is : new.left + 1 ≡ old.left
@@ -94,14 +94,15 @@ goes_on next.Node = true
 goes_on next.Branch = true
 goes_on next.Nothing = false
 
--- With these open asks, the innermost first, and their patterns, the steps have come so far.
+-- Steps that have come so far have this next step, these open asks, the innermost first, and this set of their
+-- patterns.
 pub record IsOpenAt (next : Next) (open_asks : List OpenAsk) (asked : BTreeSet ℕ) (so_far : Growth) : Type 0 where
   pub room : IsRoomy so_far
   pub next_is : IsNextOf next so_far
   pub open_are : HasOpenAsks open_asks so_far
   pub asked_is : IsAskedSet asked open_asks
 
--- These steps have come somewhere.
+-- The steps have come to some place that has this next step, these open asks, the innermost first, and this set.
 pub record HaveCome (steps : List Step) (next : Next) (open_asks : List OpenAsk) (asked : BTreeSet ℕ) : Type 0 where
   pub so_far : Growth
   pub steps_are : steps ≡ steps_so_far so_far
@@ -110,7 +111,7 @@ pub record HaveCome (steps : List Step) (next : Next) (open_asks : List OpenAsk)
 abbrev pub IsReadingPlan : Reader → Type 0
 IsReadingPlan r = HaveCome r.plan.steps r.next (reverse r.open.items) r.asked
 
--- Below these open asks, the innermost first, a node has ended with these steps.
+-- The steps end with a node, below these open asks, the innermost first.
 pub record HasNodeEnded (steps : List Step) (open_asks : List OpenAsk) (asked : BTreeSet ℕ) : Type 0 where
   pub above : List AskAbove
   pub node : PlanNode
@@ -137,39 +138,39 @@ IsRightForm r (form.On digits) = IsRightNext r (On (digit_bits digits.now))
 IsRightForm r (form.Class class) = IsRightNext r (Class class)
 IsRightForm r form.End = ⊥
 
--- The line may not come behind those so far, or it may, and its values are wrong.
+-- The line may not come after those so far, or it may come and its values are wrong.
 pub data IsWrongLine (plan : Plan) (line : PlanLine) (kind : PlanKind) : Type 0 where
   may_not_come : ¬ BeginPlan (lines_so_far plan ++ line ∷ []) → kind ≡ Order → IsWrongLine plan line kind
   has_wrong_values : BeginPlan (lines_so_far plan ++ line ∷ []) → ¬ IsRightPlanLine (lines_so_far plan) line → kind ≡ Value → IsWrongLine plan line kind
 
--- The line's step is there too.
+-- The plan of the new reader is the old one with the line's step added.
 pub record IsLineAdded (old new : Reader) (line : PlanLine) : Type 0 where
   pub reading : IsReadingPlan new
   pub plan_is : new.plan ≡ with_line old.plan line
 
 -- ---- the innermost ask, which is the first
 
--- All its branches have begun.
+-- There is an innermost ask. It has this pattern, and all its branches have begun.
 abbrev pub IsInnermostWhole : List OpenAsk → ℕ → Type 0
 IsInnermostWhole [] pattern = ⊥
 IsInnermostWhole (o ∷ open_asks) pattern = (o.left ≡ 0) × (o.pattern ≡ pattern)
 
--- There is none, or a branch of it is still to begin.
+-- There is no open ask, or a branch of the innermost ask is still to begin.
 abbrev pub IsInnermostOpen : List OpenAsk → Type 0
 IsInnermostOpen [] = ⊤
 IsInnermostOpen (o ∷ open_asks) = 0 < o.left
 
--- whether it has a branch for the answer of these digits
+-- whether there is an innermost ask that has a branch for the answer of these digits
 abbrev pub innermost_has : List OpenAsk → Bor (List ℕ) → Bool
 innermost_has [] digits = false
 innermost_has (o ∷ open_asks) digits = contains digits_order o.answers digits
 
--- There is one, and a branch of it is still to begin.
+-- There is an innermost ask, and a branch of it is still to begin.
 abbrev pub HasBranchLeft : List OpenAsk → Type 0
 HasBranchLeft [] = ⊥
 HasBranchLeft (o ∷ open_asks) = 0 < o.left
 
--- A branch of it more has begun, for the answer of these digits, and the others are as before.
+-- One more branch of the innermost ask has begun, for the answer of these digits, and the other asks are as before.
 pub record IsInnermostBegun (old new : List OpenAsk) (digits : Bor (List ℕ)) : Type 0 where
   pub before : OpenAsk
   pub after : OpenAsk

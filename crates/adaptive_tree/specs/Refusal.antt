@@ -1,4 +1,4 @@
--- Which line of a text that isn't a plan's is refused, and by which rule.
+-- Which line of a text is refused if the text isn't that of a plan, and for which rule.
 use Rattle.std.specs.Prelude.{◌≡◌, ◌≢◌, ℕ, ◌+◌, ◌<◌, ◌≤◌, List, [], ◌∷◌, ◌++◌, length, ⊤}
 use Rattle.text_fields.specs.Fields.{Text}
 use Rattle.diagnose.specs.Lines.{text_limit, line_number}
@@ -11,7 +11,7 @@ use Rattle.adaptive_tree.specs.PlanNode.{HasNode}
 use Rattle.adaptive_tree.specs.PlanText.{PlanLine, plan_line, plan_lines_text, plan_lines, HasPlanSpelling}
 use Rattle.adaptive_tree.specs.WellFormed.{BeginPlan, IsRightPlanLine, AreRightPlanLines}
 
--- The text begins with this line.
+-- The text begins with this line, which can be written, and `more` is the text after it.
 abbrev pub BeginsWithPlanLine : Text → PlanLine → Text → Type 0
 BeginsWithPlanLine text line more = HasPlanSpelling line × (text ≡ plan_line line ++ 10 ∷ more)
 
@@ -19,25 +19,27 @@ BeginsWithPlanLine text line more = HasPlanSpelling line × (text ≡ plan_line 
 abbrev pub HasNoPlanLine : Text → Type 0
 HasNoPlanLine text = (line : PlanLine) (more : Text) → BeginsWithPlanLine text line more → ⊥
 
--- The lines are all those of some plan.
+-- The lines are all those of some plan, whose steps are one node.
 pub record AreWhole (lines : List PlanLine) : Type 0 where
   pub plan : Plan
   pub node : HasNode plan
   pub lines_are : plan_lines plan ≡ lines
 
--- What stands behind right lines is refused so.
+-- The text after these lines is refused for a rule of this kind: it is empty and the lines aren't a whole plan, it
+-- begins with no line, or its first line may not come there or has wrong values.
 pub data PlanRestRefused (before : List PlanLine) (rest : Text) (kind : PlanKind) : Type 0 where
   cut_short : rest ≡ [] → ¬ AreWhole before → kind ≡ Order → PlanRestRefused before rest kind
   no_line : rest ≢ [] → HasNoPlanLine rest → kind ≡ Syntax → PlanRestRefused before rest kind
   misplaced : (line : PlanLine) (more : Text) → BeginsWithPlanLine rest line more → ¬ BeginPlan (before ++ line ∷ []) → kind ≡ Order → PlanRestRefused before rest kind
   wrong : (line : PlanLine) (more : Text) → BeginsWithPlanLine rest line more → BeginPlan (before ++ line ∷ []) → ¬ IsRightPlanLine before line → kind ≡ Value → PlanRestRefused before rest kind
 
--- The text is refused by this rule at this line: by its length, or since what stands behind some right lines is refused.
+-- The text is refused for a rule of this kind at the line with this number: it is too long, or the text after some
+-- right lines is refused.
 pub data PlanRefused (text : Text) (kind : PlanKind) (number : ℕ) : Type 0 where
   too_long : text_limit < length text → kind ≡ TooLong → number ≡ line_number text text_limit → PlanRefused text kind number
   at_line : (before : List PlanLine) (rest : Text) → length text ≤ text_limit → AreRightPlanLines before → text ≡ plan_lines_text before ++ rest → PlanRestRefused before rest kind → number ≡ length before + 1 → PlanRefused text kind number
 
--- A fault tells the rule and the line of a refusal, or want of memory.
+-- The fault has the rule and the line of a refusal, or says that memory is missing.
 abbrev pub TellsPlanFault : (PlanKind → ℕ → Type 0) → PlanFault → Type 0
 TellsPlanFault Refused (At kind line) = Refused kind line
 TellsPlanFault Refused NoMemory = ⊤

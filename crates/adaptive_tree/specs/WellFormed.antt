@@ -10,7 +10,7 @@ use Rattle.adaptive_tree.specs.PlanText.{PlanLine, head, step, end, plan_lines, 
 
 -- ---- what is above a place
 
--- An ask before a place whose node isn't whole there.
+-- An ask among the steps before a place, whose node isn't whole there.
 pub record OpenAsk (before : List Step) : Type 0 where
   pub above : List Step
   pub pattern : ℕ
@@ -23,11 +23,11 @@ pub record OpenAsk (before : List Step) : Type 0 where
 abbrev pub IsAskedAbove : List Step → ℕ → Type 0
 IsAskedAbove before pattern = (above : OpenAsk before) × (above.pattern ≡ pattern)
 
--- The ask whose next branch stands at the place has one for this answer.
+-- The ask whose next branch begins at the place already has a branch for this answer.
 abbrev pub HasBranch : List Step → List Bool → Type 0
 HasBranch before answer = (above : OpenAsk before) × (branches : Branches) × (above.since ≡ branch_steps branches) × Contains (branch_answers branches) answer
 
--- ---- steps, behind those of a plan that was begun
+-- ---- steps, after those of a plan that was begun
 
 pub record IsRightAsk (begun : Plan) (pattern branches : ℕ) : Type 0 where
   pub within : pattern < begun.patterns
@@ -38,6 +38,9 @@ pub record IsRightBranch (begun : Plan) (answer : List Bool) : Type 0 where
   pub width : length answer ≡ begun.positions
   pub new : ¬ HasBranch begun.steps answer
 
+-- The step has right values after the steps of the plan: an ask a pattern of the plan that isn't asked above and two or
+-- more branches, a branch an answer of the right width that its ask has no branch for, and a class is one of the
+-- plan's.
 abbrev pub IsRightStep : Plan → Step → Type 0
 IsRightStep begun (Ask pattern branches) = IsRightAsk begun pattern branches
 IsRightStep begun (On answer) = IsRightBranch begun answer
@@ -57,13 +60,13 @@ with_line begun end = begun
 abbrev pub plan_begun : List PlanLine → Plan
 plan_begun lines = fold with_line no_plan lines
 
--- The line is right behind these lines.
+-- The line's values are right after these lines.
 abbrev pub IsRightPlanLine : List PlanLine → PlanLine → Type 0
 IsRightPlanLine before (head positions patterns classes) = ⊤
 IsRightPlanLine before (step s) = IsRightStep (plan_begun before) s
 IsRightPlanLine before end = ⊤
 
--- The lines of some plan begin with these.
+-- The lines of some plan whose steps are one node begin with these, so each of these is in its place.
 pub record BeginPlan (lines : List PlanLine) : Type 0 where
   pub plan : Plan
   pub node : HasNode plan
@@ -73,7 +76,7 @@ pub record BeginPlan (lines : List PlanLine) : Type 0 where
 abbrev pub line_at : List PlanLine → ℕ → PlanLine
 line_at lines at = slice_index_or lines at end
 
--- Each line can be written, is in its place, and is right behind those before it.
+-- Each line can be written, is in its place, and has right values after those before it.
 pub record AreRightPlanLines (lines : List PlanLine) : Type 0 where
   pub spelled : All HasPlanSpelling lines
   pub places : BeginPlan lines
@@ -81,12 +84,12 @@ pub record AreRightPlanLines (lines : List PlanLine) : Type 0 where
 
 -- ---- plans
 
--- The steps are one node, and each line is right.
+-- The steps are one node, and each line can be written, is in its place and has right values, given those before it.
 pub record IsWellFormed (plan : Plan) : Type 0 where
   pub node : HasNode plan
   pub lines : AreRightPlanLines (plan_lines plan)
 
--- The text is that of the plan.
+-- The plan is well formed, and the text is that of the plan and isn't too long.
 pub record IsTextOf (plan : Plan) (text : Text) : Type 0 where
   pub well_formed : IsWellFormed plan
   pub text_is : text ≡ plan_text plan

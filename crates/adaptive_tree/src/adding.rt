@@ -1,4 +1,4 @@
-//! Steps that are added to a plan as it is read.
+//! Adds the step of a line to a plan while the plan is read.
 
 ghost use Rattle.std.specs.Prelude.{◌∷◌, ◌++◌, List, [], reverse, OnOk, MatchOption};
 ghost use Rattle.text_fields.specs.Fields.{digit_bits, AreDigitsOf};
@@ -72,7 +72,7 @@ impl<'a> Reader<'a> {
     }
 }
 
-// One branch more of the innermost ask has begun.
+// Notes that one more branch of the innermost ask has begun, for the answer of these digits.
 fn begin_branch<'a>(asks: &mut Vec<OpenAsk<'a>>, digits: &'a [u8]) -> Result<(), AllocError>
     requires { HasBranchLeft (reverse asks.old.items) }
     ensures { OnOk result (IsInnermostBegun (reverse asks.old.items) (reverse asks.new.items) digits.entry) }
@@ -85,7 +85,7 @@ fn begin_branch<'a>(asks: &mut Vec<OpenAsk<'a>>, digits: &'a [u8]) -> Result<(),
     Ok(())
 }
 
-// Closes the asks whose nodes are whole, since a node below the innermost has ended, and says what may stand next.
+// Closes the asks whose nodes are whole after a node below the innermost ask has ended, and returns what may come next.
 fn end_node(asks: &mut Vec<OpenAsk<'_>>, asked: &mut BTreeSet<u32>) -> Next
     ensures { (steps : List spec.Step) → HasNodeEnded steps (reverse asks.old.items) asked.old → HaveCome steps result (reverse asks.new.items) asked.new }
 {
@@ -100,7 +100,7 @@ fn end_node(asks: &mut Vec<OpenAsk<'_>>, asked: &mut BTreeSet<u32>) -> Next
     }
 }
 
-// The pattern of the innermost ask, where all its branches have begun.
+// Returns the pattern of the innermost ask if all its branches have begun.
 fn innermost_whole(asks: &[OpenAsk<'_>]) -> Option<u32>
     ensures { MatchOption result (IsInnermostOpen (reverse asks.now)) (IsInnermostWhole (reverse asks.now)) }
 {

@@ -1,4 +1,4 @@
-//! Lines of answers.
+//! One line of a log of answers.
 
 ghost use Rattle.std.specs.Prelude.{◌≡◌, ◌≢◌, ◌<◌, ◌^◌, ℕ, Bool, List, MatchOption};
 ghost use Rattle.text_fields.specs.Fields.{digit_bits};
@@ -6,7 +6,7 @@ ghost use Rattle.diagnose.specs.LogText.{log_line, BeginsWithLine, HasNoLine};
 
 use text_fields::{cut, digits_of, number_of_bytes};
 
-/// The line of an answer and what stands behind it.
+/// The line of an answer, and the text after it.
 #[derive(Clone, Copy)]
 pub(crate) struct AnswerLine<'a> {
     pub(crate) pattern: u32,
@@ -14,7 +14,7 @@ pub(crate) struct AnswerLine<'a> {
     pub(crate) rest: &'a [u8],
 }
 
-/// The line that a log begins with.
+/// Returns the line that a log begins with, if it begins with one.
 pub(crate) fn first_answer(text: &[u8]) -> Option<AnswerLine<'_>>
     ensures { MatchOption result (HasNoLine text.now) (λ line. BeginsWithLine text.now line.pattern (digit_bits line.digits.now) line.rest.now) }
 {
@@ -27,7 +27,7 @@ pub(crate) fn first_answer(text: &[u8]) -> Option<AnswerLine<'_>>
     })
 }
 
-// The pattern and the digits that a line spells.
+// Returns the pattern and the digits that a line spells, if it spells them.
 fn fields_of(line: &[u8]) -> Option<(u32, &[u8])>
     ensures { MatchOption result ((pattern : ℕ) (bits : List Bool) → pattern < 2 ^ 32 → log_line pattern bits ≢ line.now) (λ fields. (fields.0 < 2 ^ 32) × (log_line fields.0 (digit_bits fields.1.now) ≡ line.now)) }
 {

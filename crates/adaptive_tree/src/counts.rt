@@ -1,4 +1,4 @@
-//! How many asks a plan has, and how many on one way.
+//! `Plan::asks` and `Plan::depth`: how many asks a plan has, in all and on one way.
 
 ghost use Rattle.std.specs.Prelude.{◌≡◌, ◌<◌, ◌^◌};
 ghost use Rattle.adaptive_tree.specs.PlanNode.{HasNode, ask_count, is_ask as is_ask_step, depth_of};
@@ -7,7 +7,7 @@ ghost use Rattle.adaptive_tree.specs.WellFormed.{IsWellFormed};
 use crate::steps::{Plan, Step};
 
 impl Plan {
-    /// How many asks there are.
+    /// Returns the number of asks in the plan.
     pub fn asks(&self) -> u32
         requires formed { IsWellFormed self.now }
         requires few { ask_count self.now.steps < 2 ^ 32 }
@@ -18,7 +18,7 @@ impl Plan {
         asks as u32
     }
 
-    /// The greatest number of asks on one way.
+    /// Returns the greatest number of asks on one way down the plan.
     pub fn depth(&self) -> u32
         requires { IsWellFormed self.now }
         ensures { (root : HasNode self.now) → result ≡ depth_of root.node }

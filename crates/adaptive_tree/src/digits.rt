@@ -1,4 +1,4 @@
-//! Bits as digits.
+//! Bits that are written as digits.
 
 ghost use Rattle.std.specs.Prelude.{◌≡◌, IfOk};
 ghost use Rattle.text_fields.specs.Fields.{digit_bits};
@@ -6,7 +6,7 @@ ghost use Rattle.text_fields.specs.Fields.{digit_bits};
 use packed_bits::PackedBits;
 use std::alloc::{AllocError, Global};
 
-/// The bits of digits.
+/// Returns the bits that the digits spell.
 pub(crate) fn bits_of(alloc: Global, digits: &[u8]) -> Result<PackedBits, AllocError>
     ensures { IfOk result (λ bits. bits ≡ digit_bits digits.now) }
 {

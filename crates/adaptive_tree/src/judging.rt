@@ -1,4 +1,4 @@
-//! The rules of a plan's lines, each behind those before it.
+//! Judges whether a line of a plan is right after the lines before it.
 
 ghost use Rattle.std.specs.Prelude.{◌≡◌, true, reverse, MatchResult};
 ghost use Rattle.text_fields.specs.Fields.{digit_bits, AreDigitsOf};
@@ -13,7 +13,8 @@ use crate::line::{FirstForm, Form, first_form};
 use crate::reader::{OpenAsk, Reader};
 
 impl<'a> Reader<'a> {
-    /// The line that a text begins with, where it is right behind those before it.
+    /// Returns the line that `rest` begins with if it is right after the lines before it, else the kind of rule that is
+    /// broken.
     pub(crate) fn right_line(&self, rest: &'a [u8]) -> Result<FirstForm<'a>, PlanKind>
         requires reading { IsReadingPlan self.now }
         requires open { goes_on self.now.next ≡ true }
@@ -31,7 +32,7 @@ impl<'a> Reader<'a> {
         }
     }
 
-    // Whether a line may stand here and its values are right.
+    // Checks that a line may come here and that its values are right.
     fn judge(&self, form: Form<'a>) -> Result<(), PlanKind>
         requires reading { IsReadingPlan self.now }
         requires open { goes_on self.now.next ≡ true }
@@ -96,7 +97,7 @@ impl<'a> Reader<'a> {
     }
 }
 
-// Whether the innermost ask has a branch for the answer of these digits.
+// Returns whether the innermost ask has a branch for the answer of these digits.
 fn has_begun<'a>(asks: &[OpenAsk<'a>], digits: &'a [u8]) -> bool
     ensures { result ≡ innermost_has (reverse asks.now) digits.entry }
 {

@@ -1,4 +1,5 @@
-//! Adaptive diagnosis: plans in which the pattern to apply next depends on the answers so far, their texts, and the walk by a log.
+//! Adaptive diagnosis: plans in which the pattern to apply next depends on the answers so far, their texts, and the
+//! walk that a log of answers takes in a plan.
 #![tactic(auto)]
 
 mod adding;

@@ -1,4 +1,4 @@
-//! Lines of plans.
+//! What the lines of a plan say.
 
 ghost use Rattle.std.specs.Prelude.{◌≡◌, ◌∷◌, ◌++◌, ℕ, Contains, MatchOption, codes};
 ghost use Rattle.text_fields.specs.Fields.{IsNumber};
@@ -7,7 +7,7 @@ ghost use Rattle.adaptive_tree.specs.Forms.{IsFormOf, IsFirstForm, IsNoPlanLine,
 
 use text_fields::{cut, digits_of, number_of_bytes};
 
-/// What a line says. An answer is the digits of its bits.
+/// What a line says. An answer is held as the digits of its bits.
 #[derive(Clone, Copy)]
 pub(crate) enum Form<'a> {
     Head(u32, u32, u32),
@@ -17,14 +17,14 @@ pub(crate) enum Form<'a> {
     End,
 }
 
-/// What a line says and what stands behind it.
+/// What a line says, and the text after it.
 #[derive(Clone, Copy)]
 pub(crate) struct FirstForm<'a> {
     pub(crate) form: Form<'a>,
     pub(crate) rest: &'a [u8],
 }
 
-/// The line that a text begins with.
+/// Returns the line of a plan that a text begins with, if it begins with one.
 pub(crate) fn first_form(text: &[u8]) -> Option<FirstForm<'_>>
     ensures { MatchOption result (HasNoPlanLine text.now) (λ line. IsFirstForm text.now line.form line.rest.now) }
 {
@@ -33,7 +33,7 @@ pub(crate) fn first_form(text: &[u8]) -> Option<FirstForm<'_>>
     Some(FirstForm { form, rest })
 }
 
-// What a line says, which is without its LF.
+// Returns what a line, given without its LF, says if it is one of a plan.
 fn form_of(line: &[u8]) -> Option<Form<'_>>
     ensures { MatchOption result (IsNoPlanLine line.now) (IsFormOf line.now) }
 {
@@ -44,7 +44,7 @@ fn form_of(line: &[u8]) -> Option<Form<'_>>
     form_with(word, fields)
 }
 
-// What the line of a word and its fields says.
+// Returns what the line with this first word and these fields says if it is one of a plan.
 fn form_with<'a>(word: &[u8], fields: &'a [u8]) -> Option<Form<'a>>
     requires { ¬ Contains word.now 32 }
     ensures { MatchOption result (IsNoPlanLine (word.now ++ 32 ∷ fields.now)) (IsFormOf (word.now ++ 32 ∷ fields.now)) }
@@ -64,7 +64,7 @@ fn form_with<'a>(word: &[u8], fields: &'a [u8]) -> Option<Form<'a>>
     None
 }
 
-// What the fields of the sizes say.
+// Returns what the fields of the first line say, which has the sizes.
 fn head_of(fields: &[u8]) -> Option<Form<'_>>
     ensures { MatchOption result (IsNoPlanLine (codes "adapt" ++ 32 ∷ fields.now)) (IsFormOf (codes "adapt" ++ 32 ∷ fields.now)) }
 {
@@ -78,7 +78,6 @@ fn head_of(fields: &[u8]) -> Option<Form<'_>>
     Some(Form::Head(positions, patterns, classes))
 }
 
-// What the fields of an ask say.
 fn ask_of(fields: &[u8]) -> Option<Form<'_>>
     ensures { MatchOption result (IsNoPlanLine (codes "ask" ++ 32 ∷ fields.now)) (IsFormOf (codes "ask" ++ 32 ∷ fields.now)) }
 {
@@ -86,7 +85,6 @@ fn ask_of(fields: &[u8]) -> Option<Form<'_>>
     Some(Form::Ask(pattern, branches))
 }
 
-// What the field of a branch says.
 fn branch_of(field: &[u8]) -> Option<Form<'_>>
     ensures { MatchOption result (IsNoPlanLine (codes "on" ++ 32 ∷ field.now)) (IsFormOf (codes "on" ++ 32 ∷ field.now)) }
 {
@@ -94,7 +92,6 @@ fn branch_of(field: &[u8]) -> Option<Form<'_>>
     Some(Form::On(digits))
 }
 
-// What the field of a class says.
 fn class_of(field: &[u8]) -> Option<Form<'_>>
     ensures { MatchOption result (IsNoPlanLine (codes "class" ++ 32 ∷ field.now)) (IsFormOf (codes "class" ++ 32 ∷ field.now)) }
 {
@@ -102,7 +99,7 @@ fn class_of(field: &[u8]) -> Option<Form<'_>>
     Some(Form::Class(class))
 }
 
-// Two numbers, with a blank between.
+// Returns the two numbers that are spelled with a blank between them.
 fn pair_of(fields: &[u8]) -> Option<(u32, u32)>
     ensures { MatchOption result ((m n : ℕ) → IsNumber m → IsNumber n → pair_text m n ≡ fields.now → ⊥) (λ pair. IsPairIn fields.now pair.0 pair.1) }
 {

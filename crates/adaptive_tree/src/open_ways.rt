@@ -1,4 +1,4 @@
-//! How many asks are open at each step of a plan, and the most that are.
+//! `OpenWays`: how many asks are open, and the most that were open at once, noted as steps are added to a plan.
 
 ghost use Rattle.std.specs.Prelude.{◌≡◌, ◌+◌, ◌++◌, ◌∷◌, List, [], length, reverse, max, OnOk, OnErr};
 ghost use Rattle.adaptive_tree.specs.declared.steps.Step as spec;
@@ -7,7 +7,8 @@ ghost use Rattle.adaptive_tree.specs.OpenWays.{AreOpenWays, node_ended};
 use crate::steps::Step;
 use std::alloc::{AllocError, Global};
 
-/// For each open ask, the innermost last, how many of its branches aren't whole; and the most asks that were open at once.
+/// For each open ask, the innermost last, the number of its branches that aren't whole; and the greatest number of asks
+/// that were open at once.
 #[derive(Drop)]
 pub(crate) struct OpenWays {
     pub(crate) left: Vec<u32>,
@@ -15,7 +16,7 @@ pub(crate) struct OpenWays {
 }
 
 impl OpenWays {
-    /// No ask.
+    /// Returns the counts before any step.
     pub(crate) fn new(alloc: Global) -> OpenWays
         ensures { AreOpenWays [] result.left.items result.most }
     {
@@ -25,7 +26,7 @@ impl OpenWays {
         }
     }
 
-    /// Notes the next step.
+    /// Notes the next step. After an error nothing has changed.
     pub(crate) fn note(&mut self, step: &Step) -> Result<(), AllocError>
         ensures ok { OnOk result ((steps : List spec.Step) → AreOpenWays steps self.old.left.items self.old.most → AreOpenWays (steps ++ step.now ∷ []) self.new.left.items self.new.most) }
         ensures err { OnErr result ((self.new.left.items ≡ self.old.left.items) × (self.new.most ≡ self.old.most)) }
@@ -40,7 +41,7 @@ impl OpenWays {
         }
     }
 
-    // An ask of so many branches is open.
+    // Opens an ask with the given number of branches.
     fn open(&mut self, branches: u32) -> Result<(), AllocError>
         ensures ok { OnOk result ((self.new.left.items ≡ self.old.left.items ++ branches ∷ []) × (self.new.most ≡ max self.old.most (length self.old.left.items + 1))) }
         ensures err { OnErr result ((self.new.left.items ≡ self.old.left.items) × (self.new.most ≡ self.old.most)) }
@@ -50,7 +51,7 @@ impl OpenWays {
         Ok(())
     }
 
-    // A node has ended.
+    // Notes that a node has ended.
     fn end_node(&mut self)
         ensures left { reverse self.new.left.items ≡ node_ended (reverse self.old.left.items) }
         ensures most { self.new.most ≡ self.old.most }

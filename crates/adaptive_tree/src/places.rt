@@ -1,4 +1,4 @@
-//! Nodes and branches in the steps of a plan, by place.
+//! Finds nodes and branches in the steps of a plan by their places.
 
 ghost use Rattle.std.specs.Prelude.{◌≡◌, ◌+◌, ◌<◌, ◌≤◌, ◌^◌, Bool, List, length, drop, Option, option_and_then};
 ghost use Rattle.net_model.specs.ClassTable.{same_bits};
@@ -12,7 +12,7 @@ use crate::outcome::Outcome;
 use crate::steps::Step;
 use packed_bits::PackedBits;
 
-/// The outcome of a walk that has come to this place, or to none.
+/// Returns the outcome of a walk that has come to `place`, or to no place.
 pub(crate) fn outcome_at(steps: &[Step], place: Option<usize>) -> Outcome
     requires { IsWalkSomewhere steps.now place }
     ensures { (node : Option PlanNode) → IsWalkAt steps.now place node → result ≡ outcome_of_node node }
@@ -27,7 +27,7 @@ pub(crate) fn outcome_at(steps: &[Step], place: Option<usize>) -> Outcome
     }
 }
 
-/// Where an answer leads from a place.
+/// Returns the place to which an answer leads from `place`, if there is one.
 pub(crate) fn next_place(steps: &[Step], place: Option<usize>, digits: &[u8]) -> Option<usize>
     requires { IsWalkSomewhere steps.now place }
     ensures { (node : Option PlanNode) → IsWalkAt steps.now place node → IsWalkAt steps.now result (option_and_then (next_node (digit_bits digits.now)) node) }
@@ -39,7 +39,8 @@ pub(crate) fn next_place(steps: &[Step], place: Option<usize>, digits: &[u8]) ->
     }
 }
 
-// The place of the node of the branch for an answer, among so many branches from a place on.
+// Returns the place of the node of the branch for an answer, if it is one of the `count` branches that begin at
+// `first`.
 fn branch_place(steps: &[Step], first: usize, count: u32, digits: &[u8]) -> Option<usize>
     requires { HasBranchesAt steps.now first count }
     ensures { (given : HasBranchesAt steps.now first count) → IsWalkAt steps.now result (branch_for (digit_bits digits.now) given.branches) }
@@ -56,7 +57,7 @@ fn branch_place(steps: &[Step], first: usize, count: u32, digits: &[u8]) -> Opti
     None
 }
 
-// Whether a step is the branch for an answer.
+// Returns whether a step is the branch for the answer of these digits.
 fn is_branch_for(step: &Step, digits: &[u8]) -> bool
     ensures { (answer : List Bool) → step.now ≡ On answer → result ≡ same_bits answer (digit_bits digits.now) }
 {
@@ -66,7 +67,7 @@ fn is_branch_for(step: &Step, digits: &[u8]) -> bool
     }
 }
 
-// Whether bits are those of digits.
+// Returns whether the digits spell these bits.
 fn is_same(bits: &PackedBits, digits: &[u8]) -> bool
     ensures { result ≡ same_bits bits.now (digit_bits digits.now) }
 {
@@ -81,12 +82,12 @@ fn is_same(bits: &PackedBits, digits: &[u8]) -> bool
     true
 }
 
-// The place behind the node that stands at a place.
+// Returns the place after the node that begins at `from`.
 fn behind_node(steps: &[Step], from: usize) -> usize
     requires { from ≤ length steps.now }
     ensures { (given : BeginsWithNode (drop from steps.now)) → drop result steps.now ≡ given.rest }
 {
-    // Nodes that are still to end; the sum of 32-bit counts over all steps.
+    // The number of nodes that are still to end, at most 1 and the sum of 32-bit counts over all steps.
     let mut left: u128 = 1;
     let mut at = from;
     while left > 0 && at < steps.len() {
@@ -96,7 +97,7 @@ fn behind_node(steps: &[Step], from: usize) -> usize
     at
 }
 
-// How many nodes are still to end behind a step, before which so many were.
+// Returns how many nodes are still to end after a step, if `left` were before it.
 fn nodes_left(step: &Step, left: u128) -> u128
     requires some { 0 < left }
     requires small { left < 2 ^ 100 }

@@ -1,4 +1,4 @@
-//! What is held of a plan while its steps are read.
+//! `Reader`: what is held of a plan while it is read, with the open asks and the answers of their branches.
 
 ghost use Rattle.std.specs.Prelude.{◌≡◌, ◌<◌, [], OnOk};
 ghost use Rattle.adaptive_tree.specs.Reading.{IsReadingPlan, HasBegun, is_node, is_branch, goes_on};
@@ -7,8 +7,8 @@ use crate::steps::Plan;
 use std::alloc::{AllocError, Global};
 use std::collections::BTreeSet;
 
-/// An ask whose node isn't whole: its pattern, how many branches are still to begin, and the digits of the answers of those
-/// that did.
+/// An ask whose node isn't whole: its pattern, the number of branches that haven't begun, and the digits of the answers
+/// of those that have.
 #[derive(Drop)]
 pub(crate) struct OpenAsk<'a> {
     pub(crate) pattern: u32,
@@ -16,7 +16,7 @@ pub(crate) struct OpenAsk<'a> {
     pub(crate) answers: BTreeSet<&'a [u8]>,
 }
 
-/// What may stand next.
+/// What may come next.
 #[derive(Clone, Copy)]
 pub(crate) enum Next {
     Node,
@@ -44,7 +44,7 @@ impl Next {
     }
 }
 
-/// A plan so far, the asks that are open, the innermost last, and their patterns.
+/// The plan so far, what may come next, the open asks, the innermost last, and the set of their patterns.
 #[derive(Drop)]
 pub(crate) struct Reader<'a> {
     pub(crate) plan: Plan,
@@ -54,7 +54,7 @@ pub(crate) struct Reader<'a> {
 }
 
 impl<'a> OpenAsk<'a> {
-    /// One branch more has begun.
+    /// Notes that one more branch has begun, for the answer of these digits.
     pub(crate) fn begin(&mut self, digits: &'a [u8]) -> Result<(), AllocError>
         requires { 0 < self.old.left }
         ensures { OnOk result (HasBegun self.old self.new digits.entry) }
@@ -66,7 +66,7 @@ impl<'a> OpenAsk<'a> {
 }
 
 impl<'a> Reader<'a> {
-    /// A reader of the steps of a plan, of which none is there yet.
+    /// Returns a reader for a plan that has no steps yet.
     pub(crate) fn new(alloc: Global, plan: Plan) -> Reader<'a>
         requires { plan.steps ≡ [] }
         ensures reading { IsReadingPlan result }
@@ -80,7 +80,7 @@ impl<'a> Reader<'a> {
         }
     }
 
-    /// Whether the steps aren't a whole node yet.
+    /// Returns whether the steps aren't a whole node yet.
     pub(crate) fn goes_on(&self) -> bool
         ensures { result ≡ goes_on self.now.next }
     {
@@ -90,7 +90,7 @@ impl<'a> Reader<'a> {
         }
     }
 
-    /// The plan so far.
+    /// Returns the plan so far.
     pub(crate) fn into_plan(self) -> Plan
         ensures { result ≡ self.entry.plan }
     {

@@ -1,4 +1,4 @@
-//! Plans read from text.
+//! `read_plan`: reads a plan from its text.
 
 ghost use Rattle.std.specs.Prelude.{◌≡◌, ◌≤◌, ◌∷◌, ◌++◌, [], length, IfOk, IfErr, MatchResult};
 ghost use Rattle.diagnose.specs.Lines.{text_limit};
@@ -16,7 +16,7 @@ use crate::steps::{Plan, Steps};
 use diagnose::{LogFault, check_size};
 use std::alloc::Global;
 
-// The sizes that the first line tells and what stands behind it.
+// The sizes in the first line, and the text after it.
 #[derive(Clone, Copy)]
 struct HeadLine<'a> {
     positions: u32,
@@ -25,7 +25,9 @@ struct HeadLine<'a> {
     rest: &'a [u8],
 }
 
-/// The plan of a text, which has at most `diagnose::TEXT_LIMIT` bytes. A fault tells the first line that breaks a rule.
+/// Returns the plan of a text. Returns `At` with a kind and a line exactly if the text isn't that of a plan: it has
+/// more than `diagnose::TEXT_LIMIT` bytes (`TooLong`), or this is its first line that breaks a rule (`Syntax`, `Order`
+/// or `Value`).
 pub fn read_plan(alloc: Global, bytes: &[u8]) -> Result<Plan, PlanFault>
     ensures read { IfOk result (λ plan. IsTextOf plan bytes.now) }
     ensures refused { IfErr result (TellsPlanFault (PlanRefused bytes.now)) }
@@ -68,7 +70,7 @@ fn read_lines(alloc: Global, bytes: &[u8]) -> Result<Plan, PlanFault>
     }
 }
 
-// A plan of these sizes, without steps.
+// Returns a plan with these sizes and no steps.
 fn empty_plan(alloc: Global, head: HeadLine<'_>) -> Plan
     ensures positions { result.positions ≡ head.entry.positions }
     ensures patterns { result.patterns ≡ head.entry.patterns }
@@ -83,7 +85,7 @@ fn empty_plan(alloc: Global, head: HeadLine<'_>) -> Plan
     }
 }
 
-// The line of the sizes, with which a text begins.
+// Returns the line of sizes if the text begins with it, else the kind of rule that is broken.
 fn head_line(text: &[u8]) -> Result<HeadLine<'_>, PlanKind>
     ensures { MatchResult result (λ line. BeginsWithPlanLine text.now (head line.positions line.patterns line.classes) line.rest.now) (PlanRestRefused [] text.now) }
 {
@@ -104,7 +106,7 @@ fn head_line(text: &[u8]) -> Result<HeadLine<'_>, PlanKind>
     }
 }
 
-// What stands behind the line `end`, with which the rest begins behind a whole node.
+// Returns the text after the line `end` if `rest` begins with it, as it must after a whole node.
 fn end_line(rest: &[u8]) -> Result<&[u8], PlanKind>
     ensures { MatchResult result (λ behind. BeginsWithPlanLine rest.now end behind.now) (λ kind. (plan : spec.Plan) → HasNode plan → PlanRestRefused (lines_so_far plan) rest.now kind) }
 {
@@ -122,7 +124,7 @@ fn end_line(rest: &[u8]) -> Result<&[u8], PlanKind>
     }
 }
 
-// Refuses what stands behind the line `end`.
+// Refuses any text after the line `end`.
 fn check_nothing(rest: &[u8]) -> Result<(), PlanKind>
     ensures { MatchResult result (λ _. rest.now ≡ []) (λ kind. (plan : spec.Plan) → PlanRestRefused (lines_so_far plan ++ end ∷ []) rest.now kind) }
 {

@@ -1,4 +1,4 @@
-//! Plans, as steps in prefix order.
+//! `Plan`: a plan as a list of steps in prefix order.
 
 ghost use Rattle.std.specs.Prelude.{◌≡◌, [], ◌∷◌, ◌++◌, length, OnOk, OnErr};
 ghost use Rattle.adaptive_tree.specs.OpenWays.{open_ways};
@@ -8,7 +8,8 @@ use packed_bits::PackedBits;
 use std::alloc::{AllocError, Global};
 use std::marker::Model;
 
-/// A pattern is asked, and so many branches follow; a branch for an answer, whose node follows; a class is reached.
+/// A step of a plan: `Ask(pattern, branches)` asks a pattern, and that number of branches follows; `On(answer)` begins
+/// the branch for an answer, whose node follows; `Class(class)` reaches a class.
 #[derive(Drop)]
 pub enum Step {
     Ask(u32, u32),
@@ -20,7 +21,7 @@ pub enum Step {
 #[derive(Drop)]
 pub struct Steps {
     steps: Vec<Step>,
-    // So the depth of a plan is told without memory.
+    // With these the depth of a plan is known without taking memory.
     ways: OpenWays,
 }
 
@@ -37,7 +38,7 @@ impl Model for Steps {
 }
 
 impl Steps {
-    /// No steps.
+    /// Returns an empty list.
     pub fn new(alloc: Global) -> Steps
         ensures { result ≡ [] }
     {
@@ -47,7 +48,7 @@ impl Steps {
         }
     }
 
-    /// Adds a step behind all others. After an error the list is as it was.
+    /// Adds a step after all others. After an error nothing has changed.
     pub fn push(&mut self, step: Step) -> Result<(), AllocError>
         ensures ok { OnOk result (self.new ≡ self.old ++ step ∷ []) }
         ensures err { OnErr result (self.new ≡ self.old) }
@@ -60,21 +61,21 @@ impl Steps {
         noted
     }
 
-    /// How many steps there are.
+    /// Returns the number of steps.
     pub fn len(&self) -> usize
         ensures { result ≡ length self.now }
     {
         self.steps.len()
     }
 
-    /// The steps as a slice.
+    /// Returns the steps as a slice.
     pub fn as_slice(&self) -> &[Step]
         ensures { result.now ≡ self.now }
     {
         &self.steps
     }
 
-    // The most asks that are open at once.
+    // Returns the greatest number of asks that are open at once.
     pub(crate) fn most_open(&self) -> u64
         ensures { result ≡ (open_ways self.now).most }
     {
@@ -82,7 +83,7 @@ impl Steps {
     }
 }
 
-/// A plan for a number of classes, by answers of so many positions to so many patterns.
+/// A plan for `classes` classes, by answers of `positions` bits each to some of `patterns` patterns.
 #[derive(Drop)]
 pub struct Plan {
     pub positions: u32,

@@ -1,4 +1,4 @@
-//! Where a log of answers leads in a plan.
+//! `follow`: walks down a plan by the answers of a log, one after another.
 
 ghost use Rattle.std.specs.Prelude.{◌≡◌, ◌≢◌, ◌≤◌, ◌↔◌, List, [], length, IsTrue, IfOk, IfErr, MatchResult};
 ghost use Rattle.diagnose.specs.Lines.{text_limit, TellsLogFault};
@@ -15,9 +15,12 @@ use crate::steps::Plan;
 use diagnose::{LogFault, LogKind, check_size};
 use std::alloc::Global;
 
-/// Where a log of answers leads in a plan.
+/// Returns where a log of answers leads in a plan. Returns `Unknown` exactly if the answers lead to an ask that has no
+/// branch for the last of them.
 ///
-/// A log has at most `diagnose::TEXT_LIMIT` bytes. A fault tells the first line that breaks a rule. No memory is taken.
+/// Returns `At` with a kind and a line exactly if the text isn't a log of answers to this plan: it has more than
+/// `diagnose::TEXT_LIMIT` bytes (`TooLong`), or this is its first line that breaks a rule (`Syntax`, `Order` or
+/// `Width`). The code takes no memory, but no clause says so.
 pub fn follow(_alloc: Global, plan: &Plan, log: &[u8]) -> Result<Outcome, LogFault>
     requires { IsWellFormed plan.now }
     ensures led { IfOk result (λ outcome. LeadsTo plan.now log.now outcome) }
@@ -50,7 +53,8 @@ fn follow_lines(plan: &Plan, log: &[u8]) -> Result<Outcome, LogFault>
     Ok(outcome_at(steps, place))
 }
 
-// The line that a text begins with, where it answers the pattern that is asked.
+// Returns the line that `rest` begins with if it answers the pattern that is asked, else the kind of rule that is
+// broken.
 fn right_answer(positions: u32, end: Outcome, rest: &[u8]) -> Result<AnswerLine<'_>, LogKind>
     requires { rest.now ≢ [] }
     ensures { MatchResult result (λ line. IsAnswerLine positions end rest.now line.pattern line.digits.now line.rest.now) (λ kind. (node : PlanNode) (before : List Answer) → end ≡ outcome_after node before → AnswerRefused positions node before rest.now kind) }
@@ -67,7 +71,6 @@ fn right_answer(positions: u32, end: Outcome, rest: &[u8]) -> Result<AnswerLine<
     Ok(line)
 }
 
-// Whether this pattern is asked.
 fn is_asked(end: Outcome, pattern: u32) -> bool
     ensures { IsTrue result ↔ (end ≡ outcome.Ask pattern) }
 {

@@ -1,4 +1,4 @@
-//! Plans written as text.
+//! `write_plan`: writes a plan as text.
 
 ghost use Rattle.std.specs.Prelude.{◌≡◌, ◌++◌, ◌∷◌, [], flat_map, IfOk, OnOk};
 ghost use Rattle.std.specs.String.{string_bytes};
@@ -11,7 +11,7 @@ use packed_bits::PackedBits;
 use std::alloc::{AllocError, Global};
 use text_fields::push_bits;
 
-/// The text of a plan. It may have more bytes than `read_plan` reads.
+/// Returns the text of a plan. It may have more bytes than `read_plan` accepts.
 pub fn write_plan(alloc: Global, plan: &Plan) -> Result<Vec<u8>, AllocError>
     requires { IsWellFormed plan.now }
     ensures { IfOk result (λ text. text.items ≡ plan_text plan.now) }

@@ -12,7 +12,7 @@ use Rattle.fault_sim.specs.FaultSim.{FaultSim, lanes_at}
 use Rattle.answer_numbers.specs.declared.differences.PositionLists.{PositionLists}
 use Rattle.answer_numbers.specs.Differences.{AreLists, HasPush, HasPlace, end_count, found_at}
 
--- The place is in the lists of the first of these positions, so many, and of no others.
+-- The place is in the lists of the first `count` of these positions, and of no others.
 pub record IsAddedTo (sim : FaultSim) (place : ℕ) (positions : List ℕ) (count : ℕ) (old new : PositionLists) : Type 0 where
   pub ends : end_count new ≡ end_count old
   pub lists : AreLists new
@@ -20,7 +20,7 @@ pub record IsAddedTo (sim : FaultSim) (place : ℕ) (positions : List ℕ) (coun
   pub rest : (q : ℕ) → q < end_count old → (Contains (take count positions) q → ⊥) → found_at new q place ≡ None
   pub others : (q p : ℕ) → q < end_count old → p ≢ place → found_at new q p ≡ found_at old q p
 
--- in an ascending list no number stands again
+-- an ascending list has no number twice
 pub not_earlier : (xs : List ℕ) (i : ℕ) → AllPairs ◌<◌ xs → i < length xs → Contains (take i xs) (get_or xs i 0) → ⊥
 not_earlier xs i ascending h (k, l, e) =
     let x = get_or xs i 0 in
@@ -59,7 +59,7 @@ added_more {sim} {place} {positions} {i} {old} {now} {new} ascending h so_far pu
       others = λ q p l ne. kept q p l (inr ne) ∙ so_far.others q p l ne;
     }
 
--- once it is in the list of each position that differs
+-- after the place is in the list of each position that differs
 pub added_all : {sim : FaultSim} {place : ℕ} {positions : List ℕ} {i : ℕ} {old new : PositionLists} → end_count old ≡ length sim.circuit.positions
     → ((position : ℕ) → position < length sim.circuit.positions → Contains positions position ↔ IsTrueSomewhere (lanes_at sim position)) → length positions ≤ i → IsAddedTo sim place positions i old new → HasPlace sim place old new
 added_all {sim} {place} {positions} {i} {old} {new} count exactly all added =

@@ -76,7 +76,7 @@ module _ (lanes : ℕ) (nodes : List Node) (node position : ℕ) (forest : IsFor
   own_turn = ap (λ (x : Node). x.turn) at_own
 
   module _ (turn : turn_at nodes node ≢ position + 1) where
-    -- no other node stands below for the position
+    -- no other node is below for the position
     none_yet : (n : ℕ) → lanes ≤ n → n < length nodes → above_at nodes n ≡ node → position_at nodes n ≡ position → ⊥
     none_yet n on h a p =
         let some : position_at nodes n < turn_at nodes node = subst (λ k. position_at nodes n < turn_at nodes k) a (forest.known n on h) in
@@ -101,7 +101,7 @@ module _ (lanes : ℕ) (nodes : List Node) (node position : ℕ) (forest : IsFor
       | inr new ↦ omega (arith, new_above n new, new, known_node)
     ]
 
-    -- a node below, told by an equation
+    -- a node below, given by equations
     last_as : (n c t : ℕ) → child_at grown_nodes n ≡ c → turn_at grown_nodes n ≡ t → lanes ≤ c → c < length grown_nodes → above_at grown_nodes c ≡ n → position_at grown_nodes c + 1 ≡ t → IsLastChild lanes grown_nodes n
     last_as n c t child turns past inside above own = record {
       node = subst (λ k. lanes ≤ k) (sym child) past;
@@ -194,7 +194,7 @@ child_there old new node position above forest known own turn lanes nodes stands
       others = λ n h. same_ways old new nodes n;
     }
 
--- it is made
+-- the node below is made
 pub child_made : (old new : LaneTrees) (node position child : ℕ) (forest : IsForest old.lanes (position + 1) old.nodes.items) (known : node < length old.nodes.items) → turn_at old.nodes.items node ≢ position + 1
     → length old.nodes.items + 1 < 2 ^ 32 → new.lanes ≡ old.lanes → new.stands.items ≡ old.stands.items → new.nodes.items ≡ grown_nodes old.lanes old.nodes.items node position forest known → child ≡ length old.nodes.items
     → HasChild node position old new child

@@ -22,7 +22,7 @@ use Rattle.answer_numbers.specs.Differences.{found_at, differs_at, end_count, Ar
 use Rattle.answer_numbers.specs.Growing.{AreLaneLists}
 use Rattle.answer_numbers.proofs.FreeLemmas.{bit_by, same_answers}
 
--- the fault of a number of the circuit's list, and that it stands in the circuit
+-- the fault of a number in the circuit's list, and that it is a fault of the circuit
 pub lead_is : (c : Circuit) (all : List Fault) (number : ℕ) (fault : Fault) → all ≡ faults c → slice_get all number ≡ Some fault → fault ≡ fault_numbered c number
 lead_is c all number fault same got = sym (get_or_from_slice_get all number fault Free got) ∙ ap (λ (fs : List Fault). get_or fs number Free) same
 
@@ -31,7 +31,7 @@ lead_stands c all number fault same got =
     let there : slice_get (faults c) number ≡ Some fault = ap (λ (fs : List Fault). slice_get fs number) (sym same) ∙ got in
     subst (IsFaultOf c) (get_or_from_slice_get (faults c) number fault Free there) (listed c number Free (slice_get_within (faults c) number fault there))
 
--- an answer differs where some position does
+-- an answer differs exactly if some position does
 differs_by_any : (c : Circuit) (f : Fault) (v : List Bool) (any : Bool) (at : ℕ → Bool) → IsTrue any ↔ ((position : ℕ) × (position < length c.positions) × IsTrue (at position))
     → ((position : ℕ) → position < length c.positions → IsDifference c f v position (at position)) → (answer free : List Bool) → IsAnswer c f v answer → IsAnswer c Free v free → IsTrue any ↔ (answer ≢ free)
 differs_by_any c f v any at some each answer free a b = (
@@ -117,7 +117,7 @@ module _ (c : Circuit) (leads : List ℕ) (vectors : List (List Bool)) (few : le
           ];
         }
 
-  -- the lists have none but the leads' places and the vectors' lanes
+  -- the lists have only the leads' places and the vectors' lanes
   pub lane_lists : (compared : Compared) → AreCompared c leads vectors (length leads) compared → AreLaneLists (length vectors) (length leads * length vectors) compared.lists
   lane_lists compared are = record {
     linked = are.lists;

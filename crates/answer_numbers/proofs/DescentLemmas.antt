@@ -1,4 +1,4 @@
--- What comes of a way down: by one step, and unchanged where all that it is made of is.
+-- The value of a number by its way: by one step, and unchanged if all that it is made of is unchanged.
 use Rattle.std.proofs.Common.{◌≡◌, ◌∙◌, ℕ, zero, suc, ◌<◌, ◌≤◌, cond, refl, sym, ap, arith, inl, inr}
 use Rattle.std.proofs.lemmas.Bool.{cases_lt, lt-ltb, le-ltb}
 use Rattle.answer_numbers.specs.Descents.{descended, descended_within}

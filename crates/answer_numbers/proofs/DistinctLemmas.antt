@@ -79,7 +79,7 @@ from_distinct (y ∷ ys) x h = elim (first_or_later y (filter (differs_from y) (
   | inr more ↦ later y ys x (from_distinct ys x (Contains-from_filter (differs_from y) (distinct_answers ys) x more).0)
 ]
 
--- there are no more than answers
+-- there are at most as many as answers
 pub distinct-few : (xs : List (List Bool)) → length (distinct_answers xs) ≤ length xs
 distinct-few [] = omega arith
 distinct-few (x ∷ xs) = omega (arith, distinct-few xs, length-filter (differs_from x) (distinct_answers xs), count_by-le-length (differs_from x) (distinct_answers xs))

@@ -15,12 +15,12 @@ module _ (a : Inside) (n : Numbered) (is : a.numbered ≡ Some n) (s : AnswerNum
   pub same_leads : a.leads.now ≡ s.leads
   same_leads = ap (λ (x : AnswerNumbers). x.leads) view
 
-  -- what is so of the fields is so of the value
+  -- what holds of the fields holds of the value
   pub moved : (P : Circuit → List ℕ → List (List Bool) → Type 0) → P a.good.circuit a.leads.now (vectors_of a.good) → P s.circuit s.leads (numbered_vectors s)
   moved P holds =
       subst (λ vs. P s.circuit s.leads vs) same_vectors (subst (λ ls. P s.circuit ls (vectors_of a.good)) same_leads (subst (λ k. P k a.leads.now (vectors_of a.good)) (ap (λ (x : AnswerNumbers). x.circuit) view) holds))
 
-  -- and the other way
+  -- what holds of the value holds of the fields
   pub held : (P : Circuit → List ℕ → List (List Bool) → Type 0) → P s.circuit s.leads (numbered_vectors s) → P a.good.circuit a.leads.now (vectors_of a.good)
   held P holds =
       subst (λ vs. P a.good.circuit a.leads.now vs) (sym same_vectors) (subst (λ ls. P a.good.circuit ls (numbered_vectors s)) (sym same_leads) (subst (λ k. P k s.leads (numbered_vectors s)) (sym (ap (λ (x : AnswerNumbers). x.circuit) view)) holds))

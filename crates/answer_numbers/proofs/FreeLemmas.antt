@@ -27,7 +27,7 @@ answer_exists c is f v =
 pub length-answer : {c : Circuit} {f : Fault} {v answer : List Bool} → IsAnswer c f v answer → length answer ≡ length c.positions
 length-answer {c} {f} {v} {answer} is = ap length is.shows ∙ length-seen_bits (stuck_position f) is.bits c.positions
 
--- what the lines that the positions show carry, in a valuation without a fault
+-- the fault-free answer, by the bits of the lines that the positions show
 pub free_is : (c : Circuit) → IsCircuit c → (v answer : List Bool) → length answer ≡ length c.positions
     → ((k : ℕ) (bits : List Bool) → k < length c.positions → Agrees c Free v bits → bit_at answer k ≡ bit_at bits (get_or c.positions k 0)) → IsAnswer c Free v answer
 free_is c is v answer long each =
@@ -66,7 +66,7 @@ turn_by turn other bit free h k = same_from_decides turn other h k
 
 -- ---- the numbers that pass a test
 
--- whether a number stands in a list
+-- whether a number is in a list
 abbrev pub is_on : ℕ → List ℕ → Bool
 is_on k xs = list_any (λ x. eqb x k) xs
 
@@ -99,7 +99,7 @@ pub on_passing : (test : ℕ → Bool) (k n : ℕ) → is_on k (passing_below te
 on_passing test k zero = sym (ap (λ b. b && test k) (le-ltb k 0 (omega arith)))
 on_passing test k (suc n) = on_more test k n (test n) refl (on_passing test k n)
 
--- the numbers are the same where the tests are, and the tests where the numbers are
+-- the numbers are the same exactly if the tests are
 pub passing-same : (test other : ℕ → Bool) (n : ℕ) → ((k : ℕ) → k < n → test k ≡ other k) → passing_below test n ≡ passing_below other n
 passing-same test other zero same = refl
 passing-same test other (suc n) same =
@@ -127,7 +127,7 @@ pub length-turned : (xs : List ℕ) (bits : List Bool) → length (turned xs bit
 length-turned [] bits = refl
 length-turned (x ∷ xs) bits = length-turned xs (set bits x (not (bit_at bits x))) ∙ length-set bits x (not (bit_at bits x))
 
--- the bit at a number, turned where the test says so
+-- the bit at a number, turned if the test says so
 abbrev turned_bit : Bool → List Bool → ℕ → Bool
 turned_bit turn bits k = cond turn (not (bit_at bits k)) (bit_at bits k)
 
@@ -152,7 +152,7 @@ turn_more test n k false bits e h so_far =
       | inr ne ↦ ap (λ t. turned_bit (t && test k) bits k) (limit_more k n ne)
     ]
 
--- where the numbers are below the length
+-- if the numbers are below the length
 pub turned_at : (test : ℕ → Bool) (n k : ℕ) (bits : List Bool) → n ≤ length bits → bit_at (turned (passing_below test n) bits) k ≡ turned_bit (ltb k n && test k) bits k
 turned_at test zero k bits h = sym (ap (λ b. turned_bit (b && test k) bits k) (le-ltb k 0 (omega arith)))
 turned_at test (suc n) k bits h = turn_more test n k (test n) bits refl (omega (arith, h)) (λ more l. turned_at test n k more l)

@@ -1,4 +1,4 @@
--- Cells that go on by a position, some after others.
+-- Cells that advance by a position, some after others.
 use Rattle.std.proofs.Common.{◌≡◌, ◌≢◌, ◌∙◌, ℕ, ◌+◌, ◌-◌, ◌*◌, ◌/◌, ◌%◌, ◌<◌, ◌≤◌, ◌^◌, Bool, true, false, not, cond, eqb, ltb, leb, ◌||◌, ◌&&◌, List, length, refl, sym, ap, arith, inl, inr, w64}
 use Rattle.std.specs.Prelude.{bit_and}
 use Rattle.std.specs.Int.{trailing_zeros, bit_at as digit_of}
@@ -30,7 +30,7 @@ forest_higher lanes limit more nodes h forest = record {
 pub trees_higher : (limit more : ℕ) (t : LaneTrees) → limit ≤ more → AreTrees limit t → AreTrees more t
 trees_higher limit more t h trees = record { forest = forest_higher t.lanes limit more t.nodes.items h trees.forest; within = trees.within }
 
--- where no cell is marked, all is as before
+-- if no cell is marked, all is as before
 pub grown_none : (position : ℕ) (marks : ℕ → Bool) (t : LaneTrees) → AreTrees (position + 1) t → ((cell : ℕ) → cell < length t.stands.items → marks cell ≡ false) → AreGrown position marks t t
 grown_none position marks t trees none = record {
   lanes = refl;
@@ -45,7 +45,7 @@ marked_twice true false m p w v u ev eu apart em = eu ∙ (ev ∙ sym (cond-true
 marked_twice false true m p w v u ev eu apart em = eu ∙ (ap (longer_way p) ev ∙ sym (cond-true m (longer_way p w) w em))
 marked_twice false false m p w v u ev eu apart em = eu ∙ (ev ∙ sym (cond-false m (longer_way p w) w em))
 
--- first some cells go on, and then others
+-- first some cells advance, and then others
 pub grown_then : {position : ℕ} {first second : ℕ → Bool} {old mid new : LaneTrees} (marks : ℕ → Bool) → AreGrown position first old mid → AreGrown position second mid new
     → ((cell : ℕ) → cell < length old.stands.items → second cell ≡ true → first cell ≡ false) → ((cell : ℕ) → cell < length old.stands.items → marks cell ≡ (first cell || second cell)) → AreGrown position marks old new
 grown_then {position} {first} {second} {old} {mid} {new} marks was more apart union = record {
@@ -55,7 +55,7 @@ grown_then {position} {first} {second} {old} {mid} {new} marks was more apart un
   ways = λ cell h. marked_twice (first cell) (second cell) (marks cell) position (way_at old cell) (way_at mid cell) (way_at new cell) (was.ways cell h) (more.ways cell (omega (arith, h, was.cells))) (apart cell h) (union cell h);
 }
 
--- the same with other words for the marks
+-- the same for marks that are equal
 pub grown_as : {position : ℕ} {first : ℕ → Bool} {old new : LaneTrees} (marks : ℕ → Bool) → AreGrown position first old new → ((cell : ℕ) → cell < length old.stands.items → marks cell ≡ first cell) → AreGrown position marks old new
 grown_as {position} {first} {old} {new} marks grown same = record {
   lanes = grown.lanes;
@@ -66,11 +66,11 @@ grown_as {position} {first} {old} {new} marks grown same = record {
 
 -- ---- the cells of a word, one after another
 
--- whether a cell is one of 64 from the first one on
+-- whether a cell is one of the 64 starting at the first one
 abbrev pub is_near : ℕ → ℕ → Bool
 is_near first cell = leb first cell && ltb (cell - first) 64
 
--- the cells that a word has and what is left of it hasn't
+-- whether a word has a cell and what is left of the word doesn't
 abbrev pub word_done : ℕ → ℕ → ℕ → ℕ → Bool
 word_done first word left cell = in_word first word cell && not (in_word first left cell)
 
@@ -141,7 +141,7 @@ word_whole first word cell zero = whole (is_near first cell) (bit_of word (cell 
     whole true false l e = refl
     whole false w l e = refl
 
--- and at its start none is done
+-- at the start of a word no cell of it is done
 pub word_none : (first word cell : ℕ) → word_done first word word cell ≡ false
 word_none first word cell = none (is_near first cell) (bit_of word (cell - first))
   where
@@ -152,7 +152,7 @@ word_none first word cell = none (is_near first cell) (bit_of word (cell - first
 
 -- ---- the words of lanes, one after another
 
--- the cells that lanes below a limit have
+-- whether the lanes below a limit have a cell
 abbrev pub lanes_done : ℕ → List Bool → ℕ → ℕ → Bool
 lanes_done first row limit cell = in_lanes first row cell && ltb (cell - first) limit
 

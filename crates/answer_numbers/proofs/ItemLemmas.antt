@@ -29,7 +29,7 @@ module _ (ends : ℕ) (items : List Item) (place : ℕ) where
     pub found_here : (item_of ends items n).place ≡ place → found_from ends items place n ≡ Some (item_of ends items n).lanes
     found_here e = on_is ∙ ap (λ b. cond b (Some (item_of ends items n).lanes) (found_from ends items place (next_of ends items n))) (eq-eqb (item_of ends items n).place place e)
 
-    -- and one of another place is passed by
+    -- an item of another place is passed over
     pub found_behind : (item_of ends items n).place ≢ place → found_from ends items place n ≡ found_from ends items place (item_of ends items n).next
     found_behind ne = on_is ∙ ap (λ b. cond b (Some (item_of ends items n).lanes) (found_from ends items place (next_of ends items n))) (ne_eqb (item_of ends items n).place place ne)
 
@@ -61,7 +61,7 @@ module _ (ends : ℕ) (items : List Item) (item : Item) (lower : LeadsLower ends
     | inr new ↦ omega (arith, ap (λ (x : Item). x.next) (new_item n new), next, new)
   ]
 
-  -- what was found is found
+  -- what was found is found still
   found_kept : (place n : ℕ) → n < newest → found_from ends more_items place n ≡ found_from ends items place n
   found_kept place n h =
       descended_same ends newest (next_of ends items) (next_of ends more_items) found_none (found_through ends items place) (found_through ends more_items place) lower
@@ -122,7 +122,7 @@ module _ (position place : ℕ) (lanes : List Bool) (firsts : List ℕ) (items :
     | inr ne ↦ omega (arith, first_other q ne, are.inside q (omega (arith, h, long)), long, length_push items pushed_item)
   ]
 
-  -- no place comes again behind an item
+  -- no place comes again after its item
   still_once : (n : ℕ) → ends ≤ n → n < ends + length more → found_from ends more (item_of ends more n).place (item_of ends more n).next ≡ None
   still_once n on h = elim (which ends items pushed_item are.lower first_in n h) [
     | inl old ↦
@@ -154,7 +154,7 @@ module _ (position place : ℕ) (lanes : List Bool) (firsts : List ℕ) (items :
     ]);
   }
 
--- ---- lists of nothing
+-- ---- empty lists
 
 module _ (n : ℕ) (firsts : List ℕ) (items : List Item) (begin : firsts ≡ range_with_len 0 n) (none : items ≡ []) where
   pub ends_long : length firsts ≡ n

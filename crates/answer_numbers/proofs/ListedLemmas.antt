@@ -11,15 +11,15 @@ use Rattle.answer_numbers.specs.Differences.{item_of, found_from, found_at, diff
 use Rattle.answer_numbers.specs.Growing.{in_lanes, differs_in_cell, AreLaneLists}
 use Rattle.answer_numbers.proofs.ItemLemmas.{found_end, found_here, found_behind}
 
--- what the list from a number on has of a place
+-- what the list that begins with a number has of a place
 abbrev pub found_in : PositionLists → ℕ → ℕ → Option (List Bool)
 found_in lists place number = found_from (end_count lists) lists.items.items place number
 
--- the cells that are done: those of places that are no longer in the list from a number on
+-- whether a cell is done: it is that of a place that isn't in the list that begins with the number
 abbrev pub list_done : PositionLists → ℕ → ℕ → ℕ → ℕ → Bool
 list_done lists lanes position number cell = is_none (found_in lists (cell / lanes) number) && differs_in_cell lists lanes position cell
 
--- The list from a number on is the rest of that of a position.
+-- The list that begins with the number is the rest of the list of the position.
 pub record IsRest (lists : PositionLists) (position number : ℕ) : Type 0 where
   pub within : number < end_count lists + length lists.items.items
   pub own : (place : ℕ) (row : List Bool) → found_in lists place number ≡ Some row → found_at lists position place ≡ Some row
@@ -111,7 +111,7 @@ module _ (lists : PositionLists) (lanes cells position number : ℕ) (item : Ite
         true_and true y e = refl
         true_and false y e = absurd (false≢true e)
 
-    -- and of another
+    -- a cell of another place
     in_other : cell / lanes ≢ item.place → in_lanes begin item.lanes cell ≡ false
     in_other ne = elim (cases_lt cell begin) [
       | inl before ↦ and_left (leb begin cell && ltb (cell - begin) LANES) (bit_at item.lanes (cell - begin)) (and_left (leb begin cell) (ltb (cell - begin) LANES) (lt-leb begin cell before))

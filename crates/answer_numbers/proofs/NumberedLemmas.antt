@@ -50,7 +50,7 @@ module _ (node_of : ℕ → ℕ) (done : ℕ) (numbers : List ℕ) (count : ℕ)
     distinct_more : (b : Bool) → is_among (answer_of done) so_far ≡ b → distinct_answers (map answer_of (range_with_len 0 (done + 1))) ≡ cond b (distinct_answers so_far) (distinct_answers so_far ++ answer_of done ∷ [])
     distinct_more b e = ap distinct_answers answers_more ∙ (distinct_push so_far (answer_of done) ∙ ap (λ t. cond t (distinct_answers so_far) (distinct_answers so_far ++ answer_of done ∷ [])) e)
 
-    -- the next place stands where an earlier one does
+    -- the next place is at the node of an earlier one
     places_again : (p : ℕ) → p < done → node_of p ≡ node_of done → ArePlacesOf node_of (done + 1) numbers count answer_of
     places_again p h e =
         let old = are.places answer_of before in
@@ -67,7 +67,7 @@ module _ (node_of : ℕ → ℕ) (done : ℕ) (numbers : List ℕ) (count : ℕ)
           ];
         }
 
-    -- or at a node of its own
+    -- the next place is at a node of its own
     places_next : ((p : ℕ) → p < done → node_of p ≡ node_of done → ⊥) → node_of done < length numbers → ArePlacesOf node_of (done + 1) (set numbers (node_of done) count) (count + 1) answer_of
     places_next apart inside =
         let old = are.places answer_of before in
@@ -259,7 +259,7 @@ module _ (t : LaneTrees) (own : HaveOwnLanes t) where
     pub count_small : count_in lane ≤ place
     count_small = own_lane.few
 
-  -- the lanes before and behind a place
+  -- the lanes before and after a place
   pub first_lane : (place : ℕ) (n : NodeNumbers) → AreNumberedTo t (λ lane. place) n → AreNumberedTo t (done_below place 0) n
   first_lane place n are = record {
     nodes = are.nodes;

@@ -27,7 +27,7 @@ use Rattle.answer_numbers.proofs.WayLemmas.{way_apart}
 use Rattle.answer_numbers.proofs.FreeLemmas.{answer_exists, length-answer, same_answers, bit_by, turn_by, passing_low, passing-same, same_tests, length-turned, turned_at}
 
 module _ (lists : PositionLists) (places limit : ℕ) (t : LaneTrees) (whole : AreWholeTrees lists t.lanes places limit t) where
-  -- where a place differs in a lane
+  -- whether a place differs in a lane at a position
   abbrev pub test_of : ℕ → ℕ → ℕ → Bool
   test_of place lane position = differs_at lists place position lane
 
@@ -79,7 +79,7 @@ module _ (c : Circuit) (is : IsCircuit c) (leads : List ℕ) (vectors : List (Li
     own : (place : ℕ) → place < length leads → way_of t.lanes t.nodes.items (stand place lane) ≡ way_with (passing_below (differs place lane) (length c.positions)) lane
     own place h = own_way compared.lists (length leads) (length c.positions) t whole place lane h in_trees
 
-    -- answers by the nodes at which their places stand
+    -- answers by the nodes at which their places are
     module _ (answers : List (List Bool)) (given : AreLeadAnswers c leads v answers) where
       abbrev answer_of : ℕ → List Bool
       answer_of place = row_at answers place

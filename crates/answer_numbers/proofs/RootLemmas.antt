@@ -15,7 +15,7 @@ use Rattle.answer_numbers.proofs.WayLemmas.{way-root, way-node}
 
 -- ---- a list, one time more
 
--- The list has a row so many times.
+-- The list is the row, `times` times.
 pub record IsRepeated (row : List ℕ) (times : ℕ) (all : List ℕ) : Type 0 where
   pub count : length all ≡ times * length row
   pub each : (k : ℕ) → k < times * length row → get_or all k 0 ≡ get_or row (k % length row) 0
@@ -33,7 +33,7 @@ repeated_more {row} {times} {all} {more} are e = subst (IsRepeated row (times + 
   ];
 })
 
--- ---- no nodes but the roots
+-- ---- no nodes except the roots
 
 module _ (lanes places : ℕ) (few : lanes < 2 ^ 32) (t : LaneTrees) (lanes_are : t.lanes ≡ lanes) (nodes : t.nodes.items ≡ replicate lanes no_node) (row : List ℕ) (begin : row ≡ range_with_len 0 lanes)
     (are : IsRepeated row places t.stands.items) where

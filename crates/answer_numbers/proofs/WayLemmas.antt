@@ -18,7 +18,7 @@ module _ (lanes : ℕ) (nodes : List Node) where
   pub way-node : LeadsLower lanes (length nodes) (above_at nodes) → (n : ℕ) → lanes ≤ n → n < length nodes → way_of lanes nodes n ≡ longer_way (position_at nodes n) (way_of lanes nodes (above_at nodes n))
   way-node lower n h l = descended_on lanes (above_at nodes) (λ k. way_with [] k) (λ k way. longer_way (position_at nodes k) way) (length nodes) lower n h l
 
-  -- the ways of the nodes of others that have the same at each of these
+  -- other nodes that have the same above and position at each of these numbers have the same ways
   pub way-same : LeadsLower lanes (length nodes) (above_at nodes) → (more : List Node) → ((n : ℕ) → n < length nodes → above_at more n ≡ above_at nodes n) → ((n : ℕ) → n < length nodes → position_at more n ≡ position_at nodes n)
       → (n : ℕ) → n < length nodes → way_of lanes more n ≡ way_of lanes nodes n
   way-same lower more aboves positions n l =

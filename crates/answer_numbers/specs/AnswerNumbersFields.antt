@@ -7,7 +7,7 @@ use Rattle.answer_numbers.specs.declared.numbers.AnswerNumbers.TheInside.{Inside
 use Rattle.answer_numbers.specs.AnswerNumbers.{AnswerNumbers, answer_numbers_with}
 use Rattle.answer_numbers.specs.Compared.{AreKnownLeads, AreLeadNumbers}
 
--- the numbers are those of the block that was run last, where there are numbers
+-- the circuit, the leads, and the vectors of the block that was run last if there are numbers
 abbrev pub answer_numbers_of : Inside → AnswerNumbers
 answer_numbers_of a = answer_numbers_with a.good.circuit a.leads.now (option_and_then (λ n. a.good.ran) a.numbered)
 

@@ -7,12 +7,12 @@ use Rattle.answer_numbers.specs.declared.differences.Item.{Item}
 use Rattle.answer_numbers.specs.declared.differences.PositionLists.{PositionLists}
 use Rattle.answer_numbers.specs.Descents.{descended}
 
--- what stands past the last item
+-- what is read past the last item
 abbrev pub no_item : Item
 no_item = record { place = 0; lanes = []; next = 0 }
 
 module _ (ends : ℕ) (items : List Item) where
-  -- the item of a number, where the first numbers, so many, are ends of lists
+  -- the item of a number, if the first `ends` numbers are ends of lists
   abbrev pub item_of : ℕ → Item
   item_of number = slice_index_or items (number - ends) no_item
 
@@ -20,7 +20,8 @@ module _ (ends : ℕ) (items : List Item) where
   abbrev pub found_from : ℕ → ℕ → Option (List Bool)
   found_from place number = descended ends (λ n. (item_of n).next) (λ n. None) (λ n rest. if (item_of n).place == place then Some (item_of n).lanes else rest) number
 
--- All numbers have 32 bits, each leads to lower ones, and no place comes again behind an item.
+-- All numbers have 32 bits, each list begins with one of them, each item leads to a lower number, and no place comes
+-- again after its item.
 pub record AreListsOf (firsts : List ℕ) (items : List Item) : Type 0 where
   pub few : length firsts + length items < 2 ^ 32
   pub inside : (position : ℕ) → position < length firsts → slice_index firsts position < length firsts + length items
@@ -28,7 +29,8 @@ pub record AreListsOf (firsts : List ℕ) (items : List Item) : Type 0 where
   pub once : (number : ℕ) → length firsts ≤ number → number < length firsts + length items
       → found_from (length firsts) items (item_of (length firsts) items number).place (item_of (length firsts) items number).next ≡ None
 
--- The second lists have a place more at a position.
+-- The lists of `later` and `more` have `place` at `position` in `lanes`, and otherwise what those of `firsts` and
+-- `items` have.
 pub record IsPushed (position place : ℕ) (lanes : List Bool) (firsts : List ℕ) (items : List Item) (later : List ℕ) (more : List Item) : Type 0 where
   pub count : length later ≡ length firsts
   pub lists : AreListsOf later more
@@ -58,7 +60,8 @@ found_at lists position place = found_from (end_count lists) lists.items.items p
 abbrev pub differs_at : PositionLists → ℕ → ℕ → ℕ → Bool
 differs_at lists place position lane = bit_at (unwrap_or (found_at lists position place) []) lane
 
--- The new lists have a place where its answers differ by the simulator.
+-- The new lists have `place` at each position and in each lane in which the simulator's answers differ, and of other
+-- places what the old lists have.
 pub record HasPlace (sim : FaultSim) (place : ℕ) (old new : PositionLists) : Type 0 where
   pub count : end_count new ≡ end_count old
   pub lists : AreLists new

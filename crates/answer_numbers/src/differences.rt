@@ -8,7 +8,7 @@ use fault_sim::FaultSim;
 use std::alloc::{AllocError, Global};
 use word_sim::Lanes;
 
-/// A place that differs at a position in some lanes, and the number of what comes behind it in the position's list.
+/// A place, the lanes in which it differs at a position, and the number of what comes after it in the position's list.
 #[derive(Clone, Copy)]
 pub(crate) struct Item {
     pub(crate) place: u32,
@@ -16,8 +16,8 @@ pub(crate) struct Item {
     pub(crate) next: u32,
 }
 
-/// For each position a list. The number of a position stands for the end of its list. The numbers from the count of positions
-/// on are those of the items, in the order in which they came.
+/// A list of items for each position. The number of a position is the end of its list. The numbers starting at the
+/// count of positions are those of the items, in the order in which they came.
 #[derive(Drop)]
 pub(crate) struct PositionLists {
     pub(crate) firsts: Vec<u32>,
@@ -25,7 +25,7 @@ pub(crate) struct PositionLists {
 }
 
 impl PositionLists {
-    /// A list of nothing for each position.
+    /// Returns an empty list for each of `positions` positions.
     pub(crate) fn new(alloc: Global, positions: u32) -> Result<PositionLists, AllocError>
         ensures count { IfOk result (λ lists. length lists.firsts.items ≡ positions) }
         ensures lists { IfOk result AreLists }
@@ -37,7 +37,7 @@ impl PositionLists {
         })
     }
 
-    /// How many positions there are.
+    /// Returns how many positions there are.
     pub(crate) fn positions(&self) -> u32
         requires { length self.now.firsts.items < 2 ^ 32 }
         ensures { result ≡ length self.now.firsts.items }
@@ -45,7 +45,7 @@ impl PositionLists {
         self.firsts.len() as u32
     }
 
-    /// The number of what comes first in a position's list.
+    /// Returns the number of what comes first in the list of `position`.
     pub(crate) fn first(&self, position: u32) -> u32
         requires { position < length self.now.firsts.items }
         ensures { result ≡ slice_index self.now.firsts.items position }
@@ -53,7 +53,7 @@ impl PositionLists {
         self.firsts[position as usize]
     }
 
-    /// The item of a number, if it isn't the end of a list.
+    /// Returns the item of `number`, or none if `number` is the end of a list.
     pub(crate) fn at(&self, number: u32) -> Option<Item>
         requires { number < length self.now.firsts.items + length self.now.items.items }
         ensures { MatchOption result (number < length self.now.firsts.items) (IsItem self.now number) }
@@ -62,7 +62,7 @@ impl PositionLists {
         Some(self.items[at])
     }
 
-    // Puts a place before all others in the list of a position. No more items come than 32 bits can number.
+    // Puts `place` before all others in the list of `position`. It is an error if 32 bits can't number one more item.
     fn push(&mut self, position: u32, place: u32, lanes: Lanes) -> Result<(), AllocError>
         requires lists { AreLists self.old }
         requires position { position < length self.old.firsts.items }
@@ -79,7 +79,7 @@ impl PositionLists {
         Ok(())
     }
 
-    /// Puts a place into the lists of the positions at which the injected fault's answers differ.
+    /// Puts `place` into the list of each position at which the answers of the fault that `sim` injected last differ.
     pub(crate) fn add_place(&mut self, sim: &FaultSim, place: u32) -> Result<(), AllocError>
         requires lists { AreLists self.old }
         requires positions { length self.old.firsts.items ≡ length sim.now.circuit.positions }
@@ -93,7 +93,7 @@ impl PositionLists {
     }
 }
 
-/// The numbers below a count.
+/// Returns the numbers below `count`, ascending.
 pub(crate) fn numbers_below(alloc: Global, count: u32) -> Result<Vec<u32>, AllocError>
     ensures { IfOk result (λ numbers. numbers.items ≡ range_with_len 0 count) }
 {

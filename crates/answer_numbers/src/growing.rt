@@ -14,7 +14,8 @@ use std::alloc::{AllocError, Global};
 use word_sim::{LANES, Lanes};
 
 impl LaneTrees {
-    /// The trees in which each of so many places stands where it differs.
+    /// Returns the trees of `lanes` lanes in which each of `places` places is at the node of the positions at which it
+    /// differs.
     pub(crate) fn grown(
         alloc: Global,
         lists: &PositionLists,
@@ -33,7 +34,7 @@ impl LaneTrees {
         Ok(trees)
     }
 
-    // Lets all places that differ at a position go on.
+    // Advances each place that differs at `position`, in the lanes in which it differs.
     fn grow(&mut self, lists: &PositionLists, position: u32) -> Result<(), AllocError>
         requires trees { AreTrees (position + 1) self.old }
         requires lists { AreLaneLists self.old.lanes (length self.old.stands.items) lists.now }
@@ -50,7 +51,7 @@ impl LaneTrees {
         Ok(())
     }
 
-    // Lets a place go on in these lanes.
+    // Advances `place` in each of `lanes`.
     fn step_lanes(&mut self, place: u32, lanes: Lanes, position: u32) -> Result<(), AllocError>
         requires trees { AreTrees (position + 1) self.old }
         requires place { place * self.old.lanes + self.old.lanes ≤ length self.old.stands.items }
@@ -66,7 +67,7 @@ impl LaneTrees {
         Ok(())
     }
 
-    // Lets the cells go on that a word has from the first one on.
+    // Advances each cell whose bit is set in `word`, starting at cell `first`.
     fn step_word(&mut self, first: usize, word: u64, position: u32) -> Result<(), AllocError>
         requires trees { AreTrees (position + 1) self.old }
         requires within { (k : ℕ) → k < 64 → bit_of word k ≡ true → first + k < length self.old.stands.items }

@@ -1,4 +1,4 @@
-//! Exact numbers of what fault numbers answer to the vectors of a block.
+//! Exact numbers of the answers of fault numbers to the vectors of a block.
 #![tactic(auto)]
 
 mod differences;

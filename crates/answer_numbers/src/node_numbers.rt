@@ -1,4 +1,4 @@
-//! Numbers of the nodes at which places stand, in each lane in order of the lowest place.
+//! Numbers of the nodes at which places are, in each lane in order of the lowest place at a node.
 
 ghost use Rattle.std.specs.Prelude.{◌≡◌, ℕ, ◌+◌, ◌*◌, ◌<◌, ◌≤◌, ◌^◌, length, slice_index, IfOk};
 ghost use Rattle.answer_numbers.specs.NodeNumbers.{HaveOwnLanes, AreNumberedTo, HasNodeNumber};
@@ -6,7 +6,7 @@ ghost use Rattle.answer_numbers.specs.NodeNumbers.{HaveOwnLanes, AreNumberedTo, 
 use crate::trees::LaneTrees;
 use std::alloc::{AllocError, Global};
 
-// The number of a node at which no place stands.
+// The number of a node at which no place is.
 const UNNUMBERED: u32 = u32::MAX;
 
 /// The number of each node, and how many nodes of each lane have one.
@@ -17,7 +17,7 @@ pub(crate) struct NodeNumbers {
 }
 
 impl NodeNumbers {
-    /// The numbers of the nodes at which so many places stand.
+    /// Returns the numbers of the nodes at which the first `places` places are, which are all of them.
     pub(crate) fn of_places(
         alloc: Global,
         trees: &LaneTrees,
@@ -37,7 +37,7 @@ impl NodeNumbers {
         Ok(numbers)
     }
 
-    // Numbers the nodes at which a place stands.
+    // Numbers the node of `place` in each lane, if it has no number.
     fn add_place(&mut self, trees: &LaneTrees, place: u32)
         requires cells { HaveOwnLanes trees.now }
         requires place { place * trees.now.lanes + trees.now.lanes ≤ length trees.now.stands.items }
@@ -51,7 +51,7 @@ impl NodeNumbers {
         }
     }
 
-    // Numbers a node of a lane, if it has no number.
+    // Gives `node` the next number of `lane`, if it has no number.
     fn add(&mut self, node: u32, lane: u32)
         requires node { node < length self.old.numbers.items }
         requires lane { lane < length self.old.counts.items }
@@ -65,7 +65,7 @@ impl NodeNumbers {
         }
     }
 
-    /// The number of a node.
+    /// Returns the number of `node`.
     pub(crate) fn number(&self, node: u32) -> u32
         requires { node < length self.now.numbers.items }
         ensures { result ≡ slice_index self.now.numbers.items node }
@@ -73,7 +73,7 @@ impl NodeNumbers {
         self.numbers[node as usize]
     }
 
-    /// How many nodes of a lane have a number.
+    /// Returns how many nodes of `lane` have a number.
     pub(crate) fn count(&self, lane: u32) -> u32
         requires { lane < length self.now.counts.items }
         ensures { result ≡ slice_index self.now.counts.items lane }

@@ -1,4 +1,4 @@
-//! The numbers of the answers to a block.
+//! `AnswerNumbers`: the numbers of the answers to the vectors of a block.
 
 ghost use Rattle.std.specs.Prelude.{◌≡◌, ℕ, ◌+◌, ◌<◌, ◌≤◌, ◌^◌, None, Some, false, [], length, slice_index_or, All, IsSome, IfOk, OnOk, OnErr};
 ghost use Rattle.net_model.specs.Circuit.{Circuit, IsCircuit};
@@ -24,8 +24,9 @@ use word_sim::{Block, GoodSim, Lanes};
 
 /// What some fault numbers, the leads, answer to the vectors of the block that was numbered last.
 ///
-/// In each lane equal answers have one number. The numbers go up from 0 in order of the lowest place among the leads that
-/// gives each answer: where the first lead is number 0, the fault-free circuit, the answer of number 0 is the fault-free one.
+/// In each lane equal answers have one number. The numbers go up from 0, in order of the lowest place among the leads
+/// that gives each answer. If the first lead is fault number 0, the fault-free circuit, then answer number 0 is the
+/// fault-free one.
 pub struct AnswerNumbers<'a> {
     faults: &'a FaultList,
     leads: &'a [u32],
@@ -34,7 +35,7 @@ pub struct AnswerNumbers<'a> {
     numbered: Option<Numbered>,
 }
 
-// The lanes in which each place differs from the fault-free answer, where it stands in each lane, and the number of each node.
+// The lanes in which each place differs from the fault-free answer, its node in each lane, and the number of each node.
 #[derive(Drop)]
 pub(crate) struct Numbered {
     pub(crate) differing: Vec<Lanes>,
@@ -42,14 +43,15 @@ pub(crate) struct Numbered {
     pub(crate) numbers: NodeNumbers,
 }
 
-// What differs from the fault-free answers: the lanes of each place, and places by position.
+// Where places differ from the fault-free answers: the lanes in which each place does, and the places that do at each
+// position.
 #[derive(Drop)]
 pub(crate) struct Compared {
     pub(crate) differing: Vec<Lanes>,
     pub(crate) lists: PositionLists,
 }
 
-// Written out, it is one step in the proof of each function that lets the numbers go.
+// Written by hand, since the proof of each function that drops the numbers then has one step for it.
 impl Drop for AnswerNumbers<'_> {
     fn drop(self) {
         let AnswerNumbers {
@@ -74,7 +76,8 @@ impl<'a> Model for AnswerNumbers<'a> {
 }
 
 impl<'a> AnswerNumbers<'a> {
-    /// The leads' numbers, before any block. `faults` is the list of the circuit's faults.
+    /// Returns the numbers of what `leads` answer, with no block numbered yet. The leads are fault numbers of
+    /// `circuit`, and `faults` is the list of its faults.
     pub fn new(
         alloc: Global,
         circuit: &'a Circuit,
@@ -95,8 +98,9 @@ impl<'a> AnswerNumbers<'a> {
         })
     }
 
-    /// Runs the vectors of a block, and numbers what each lead answers to them. Want of memory is also answered for a block
-    /// with more differences than a `u32` numbers. After an error there are no numbers, and the next block may come.
+    /// Runs the vectors of `block`, and numbers what each lead answers to them. Returns the error also for a block with
+    /// more differences, or more nodes in its trees, than 32 bits can number. After an error circuit and leads are as
+    /// before and no block is numbered: the numbers of the last block are gone, and another block may come.
     pub fn number_block(&mut self, alloc: Global, block: &Block) -> Result<(), AllocError>
         requires { block.now.sources ≡ self.old.circuit.sources }
         ensures ok { OnOk result (self.new ≡ answer_numbers_with self.old.circuit self.old.leads (Some block.now.vectors)) }
@@ -116,7 +120,7 @@ impl<'a> AnswerNumbers<'a> {
         Ok(())
     }
 
-    /// The number of a place's answer to the vector of a lane.
+    /// Returns the number of what the lead at `place` answers to the vector of `lane`.
     pub fn number(&self, lane: u32, place: usize) -> u32
         requires lane { lane < length (numbered_vectors self.now) }
         requires place { place < length self.now.leads }
@@ -128,7 +132,7 @@ impl<'a> AnswerNumbers<'a> {
         numbered.numbers.number(numbered.trees.stand(place, lane))
     }
 
-    /// How many different answers there are to the vector of a lane.
+    /// Returns how many different answers the leads give to the vector of `lane`.
     pub fn count(&self, lane: u32) -> u32
         requires { lane < length (numbered_vectors self.now) }
         ensures { IsAnswerCount self.now lane result }
@@ -139,7 +143,7 @@ impl<'a> AnswerNumbers<'a> {
         numbered.numbers.count(lane)
     }
 
-    /// A place's answer to the vector of a lane.
+    /// Returns what the lead at `place` answers to the vector of `lane`.
     pub fn answer(&self, alloc: Global, lane: u32, place: usize) -> Result<Answer, AllocError>
         requires lane { lane < length (numbered_vectors self.now) }
         requires place { place < length self.now.leads }
@@ -150,7 +154,7 @@ impl<'a> AnswerNumbers<'a> {
         answer.unpack(alloc)
     }
 
-    /// The fault-free answer to the vector of a lane.
+    /// Returns the fault-free answer to the vector of `lane`, packed.
     pub fn free_answer(&self, alloc: Global, lane: u32) -> Result<PackedBits, AllocError>
         requires { lane < length (numbered_vectors self.now) }
         ensures { IfOk result (λ free. IsAnswer self.now.circuit Free (vector_in self.now lane) free) }
@@ -162,7 +166,8 @@ impl<'a> AnswerNumbers<'a> {
         Ok(free)
     }
 
-    /// A place's answer to the vector of a lane, packed, by the fault-free one.
+    /// Returns what the lead at `place` answers to the vector of `lane`, packed. `free` is the fault-free answer to
+    /// this vector.
     pub fn answer_over(
         &self,
         lane: u32,
@@ -183,7 +188,8 @@ impl<'a> AnswerNumbers<'a> {
         Ok(answer)
     }
 
-    /// The lanes in which a place's answer differs from the fault-free one. A lane with no vector is false.
+    /// Returns in which lanes the answer of the lead at `place` differs from the fault-free one. A lane without a
+    /// vector is false.
     pub fn differing(&self, place: usize) -> Lanes
         requires numbered { IsSome self.now.ran }
         requires place { place < length self.now.leads }
@@ -197,7 +203,7 @@ impl<'a> AnswerNumbers<'a> {
     }
 }
 
-// Numbers what the leads answer to the vectors that were run, which are so many.
+// Numbers what the leads answer to the vectors that were run. There are `lanes` of them.
 fn number_leads(
     alloc: Global,
     good: &GoodSim,
@@ -253,7 +259,6 @@ fn compare(
     Ok(compared)
 }
 
-// The fault-free answer to the vector of a lane.
 fn free_answer(alloc: Global, good: &GoodSim, lane: u32) -> Result<PackedBits, AllocError>
     requires { lane < length (vectors_of good.now) }
     ensures { IfOk result (IsAnswer good.now.circuit Free (slice_index_or (vectors_of good.now) lane [])) }

@@ -1,4 +1,4 @@
-//! For each lane a tree of answers.
+//! For each lane a tree of answers, whose steps down are positions, and the node of each place in it.
 
 ghost use Rattle.std.specs.Prelude.{◌≡◌, ℕ, ◌+◌, ◌*◌, ◌%◌, ◌<◌, ◌≤◌, ◌^◌, ◌==◌, length, slice_index, All, IfOk, OnOk};
 ghost use Rattle.word_sim.specs.declared.lanes.TheConstants.{LANES};
@@ -12,7 +12,7 @@ use std::alloc::{AllocError, Global};
 /// A node of a tree.
 #[derive(Clone, Copy)]
 pub(crate) struct Node {
-    /// The node above, and the position at which the answers of this one differ besides those of it.
+    /// The node above, and the position at which the answer of this node differs from the answer of the node above.
     pub(crate) above: u32,
     pub(crate) position: u32,
     /// One more than the last position for which a node below was made, and that node.
@@ -20,8 +20,9 @@ pub(crate) struct Node {
     pub(crate) child: u32,
 }
 
-/// For each lane a tree, whose root is the fault-free answer and has the lane's number. The way down to a node names the
-/// positions at which an answer differs from it, ascending. Each place stands at a node of each lane's tree, lane by lane.
+/// For each lane a tree. Its root is the fault-free answer and has the lane's number. The way down to a node has the
+/// positions at which the answer of this node differs from the fault-free one, ascending. `stands` has the node at
+/// which each place is in each lane's tree, by place and then by lane.
 #[derive(Drop)]
 pub(crate) struct LaneTrees {
     pub(crate) lanes: u32,
@@ -30,7 +31,7 @@ pub(crate) struct LaneTrees {
 }
 
 impl LaneTrees {
-    /// Trees of their roots alone, at which all places stand.
+    /// Returns `lanes` trees of their roots alone, at which all places are.
     pub(crate) fn new(alloc: Global, lanes: u32, places: usize) -> Result<LaneTrees, AllocError>
         requires lanes { lanes ≤ LANES }
         requires places { places < 2 ^ 32 }
@@ -52,7 +53,7 @@ impl LaneTrees {
         })
     }
 
-    /// Lets a place go one node further down in a lane: from where it stands to the node below for a position.
+    /// Advances the place of `cell` in the lane of `cell`: from its node to the node below it for `position`.
     pub(crate) fn step(&mut self, cell: usize, position: u32) -> Result<(), AllocError>
         requires trees { AreTrees (position + 1) self.old }
         requires cell { cell < length self.old.stands.items }
@@ -65,7 +66,7 @@ impl LaneTrees {
         Ok(())
     }
 
-    // The node below another for a position, which is made if it is not there.
+    // Returns the node below `node` for `position`, and makes it if it isn't there.
     fn child(&mut self, node: u32, position: u32) -> Result<u32, AllocError>
         requires forest { IsForest self.old.lanes (position + 1) self.old.nodes.items }
         requires node { node < length self.old.nodes.items }
@@ -95,7 +96,7 @@ impl LaneTrees {
         Ok(child as u32)
     }
 
-    /// The node at which a place stands in a lane.
+    /// Returns the node at which `place` is in `lane`.
     pub(crate) fn stand(&self, place: usize, lane: u32) -> u32
         requires lanes { self.now.lanes ≤ LANES }
         requires place { place < 2 ^ 32 }
@@ -105,7 +106,7 @@ impl LaneTrees {
         self.stands[place * self.lanes as usize + lane as usize]
     }
 
-    /// Turns the bits of the positions on the way up from a node.
+    /// Turns the bits of the positions on the way up from `node`.
     pub(crate) fn turn_bits(&self, node: u32, bits: &mut PackedBits)
         requires lower { (n : ℕ) → self.now.lanes ≤ n → n < length self.now.nodes.items → (node_at self.now.nodes.items n).above < n }
         requires node { node < length self.now.nodes.items }
@@ -122,7 +123,7 @@ impl LaneTrees {
     }
 }
 
-// A list, so many times.
+// Returns `row`, `times` times.
 fn repeated(alloc: Global, row: &[u32], times: usize) -> Result<Vec<u32>, AllocError>
     requires long { length row.now ≤ LANES }
     requires times { times < 2 ^ 32 }

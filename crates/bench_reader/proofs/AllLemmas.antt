@@ -1,4 +1,4 @@
--- What holds of each element of parts.
+-- What holds of each element of each part.
 use Rattle.std.proofs.Common.{List, [], ◌∷◌, get_or}
 use Rattle.std.specs.Prelude.{flat_map, All, Contains}
 use Rattle.std.proofs.lemmas.List.Elements.{All-nil, All-cons, Contains-get_or}

@@ -1,4 +1,4 @@
--- Whether some statement begins with given tokens can be told.
+-- It is decidable whether some statement begins with given tokens.
 use Rattle.std.proofs.Common.{◌≡◌, ℕ, true, false, List, [], ◌∷◌, ◌++◌, refl, ◌⊎◌, inl, inr, Option, None, Some}
 use Rattle.std.specs.Prelude.{Bool, option_map, codes, if◌then◌else◌}
 use Rattle.text_fields.specs.Fields.{Text}
@@ -9,7 +9,7 @@ use Rattle.bench_reader.proofs.StopLemmas.{nothing_begins, one_begins, no_word, 
 
 -- ---- pins
 
--- these tokens go on so that they are pins
+-- these tokens can be continued so that they are pins
 abbrev pub Begins : (List Token → Option (List Named)) → List Token → Type 0
 Begins form tokens = (more : List Token) × (pins : List Named) × (form (tokens ++ more) ≡ Some pins)
 

@@ -1,4 +1,4 @@
--- What the drivers of a text's names say of the text.
+-- What the drivers of a text's names say about the text.
 use Rattle.std.proofs.Common.{◌≡◌, ◌∙◌, ℕ, ◌<◌, ◌≤◌, List, [], ◌∷◌, length, refl, sym, ap, arith}
 use Rattle.std.specs.Prelude.{map, filter_map, flat_map, sum_by, All, IsTrue, Option, None, Some, option_map}
 use Rattle.std.proofs.lemmas.List.{length-map}
@@ -23,7 +23,7 @@ use Rattle.bench_reader.proofs.NumberLemmas.{drivers_once, drivers_named, uses_d
 use Rattle.bench_reader.proofs.SizeLemmas.{few_names, small_statements}
 use Rattle.bench_reader.proofs.PhraseLemmas.{word, number_is, words_driven, words_used, right_pins, driven_known, used_known, second_is, missing_is}
 
--- ---- nothing stands against the drivers
+-- ---- nothing is wrong with the drivers
 
 fault_none : (second missing : Option Word) → fault_by second missing ≡ None → (second ≡ None) × (missing ≡ None)
 fault_none (Some word) missing e = cc
@@ -114,7 +114,7 @@ module _ (text : Text) (n : Netlist) (p : IsParsed text n) where
         small = small;
       }
 
-  -- names that are each driven once, and all those that are used
+  -- if no name is driven twice and each used one is driven, nothing is wrong with the drivers
   pub none_at_fault : driven_twice p.phrases ≡ None → undriven p.phrases ≡ None → driver_fault n.statements ≡ None
   none_at_fault once driven = λ i. fault_by ((second ∙ ap (option_map as_word) once) i) ((missing ∙ ap (option_map as_word) driven) i)
 
@@ -136,7 +136,7 @@ module _ (text : Text) (n : Netlist) (p : IsParsed text n) where
       refused_by (driven_twice p.phrases) (undriven p.phrases) refl refl kind place
       (sym (ap (λ o. fault_by o (missing_driver n.statements)) second ∙ ap (fault_by (option_map as_word (driven_twice p.phrases))) missing) ∙ is)
 
--- the statements of a netlist that is read drive and use their names
+-- in a netlist that is read each name is driven once, and no other is used
 pub netlist_driven : (text : Text) (n : Netlist) → IsNetlist text n → IsDriven n
 netlist_driven text n is =
     let p : IsParsed text n = record { phrases = is.phrases; is_text = is.is_text; netlist_is = is.netlist_is } in

@@ -11,9 +11,9 @@ use Rattle.bench_reader.specs.Refusal.{stop_of, StopsAt, at_token, at_end, at_pi
 use Rattle.bench_reader.specs.Stops.{StopsIn, in_token, in_end, in_pins}
 use Rattle.bench_reader.proofs.DriverPins.{name_first, Pins, no_pins, some_pins, pins_are}
 
--- ---- lists that agree where they are joined
+-- ---- lists that agree if they are joined
 
--- the first list begins with the second, or the second goes on behind the first
+-- the first list begins with the second, or the second continues after the first
 abbrev pub Compared : List Token → List Token → List Token → List Token → Type 0
 Compared xs ys zs ws = ((t : List Token) × (xs ≡ zs ++ t) × (ws ≡ t ++ ys)) ⊎ ((a : Token) × ((t : List Token) × (zs ≡ xs ++ a ∷ t) × (ys ≡ a ∷ t ++ ws)))
 
@@ -65,7 +65,7 @@ phrase_end ((name_run word, a) ∷ (open_bracket, b) ∷ (name_run text, at) ∷
 phrase_end ((name_run text, at) ∷ (equals_mark, b) ∷ (name_run word, w) ∷ (open_bracket, d) ∷ tokens) x more p e = driven_end (text, at) (word, w) tokens x more p e
 phrase_end _ x more p e = cc
 
--- a whole statement is no front of what begins one
+-- a whole statement is no beginning of tokens that only begin one
 no_front : (g : List Token) (p : Phrase) (t : List Token) → phrase_of g ≡ Some p → CanBegin (g ++ t) → phrase_of (g ++ t) ≡ None → ⊥
 no_front g p [] e c n = let f : phrase_of g ≡ None = rw append-nil at n in cc
 no_front g p (x ∷ t) e c n =
@@ -93,7 +93,7 @@ same_group g r h s p q e f k = elim (compare g r h s e) [ inl a ↦ left a.0 a.1
     right : (x : Token) (t : List Token) → h ≡ g ++ x ∷ t → (g ≡ h) × (r ≡ s)
     right x t u = let n = phrase_end g x t p f in let m : phrase_of h ≡ None = rw u n in cc
 
--- tokens that stop begin with no whole statement
+-- tokens that stop don't begin with a whole statement
 pub no_statement : (size : ℕ) (tokens g r : List Token) (p : Phrase) (stop : NetKind × ℕ) → StopsIn size tokens stop → tokens ≡ g ++ r → phrase_of g ≡ Some p → IsTrue (has_right_pins p) → ⊥
 no_statement size tokens g r p stop (in_token part token more e begins wrong partial is) f k right =
     elim (compare part (token ∷ more) g r (sym e ∙ f)) [ inl a ↦ front a.0 a.1 | inr b ↦ behind b.0 b.1.0 b.1.1 b.1.2 ]
@@ -205,13 +205,13 @@ module _ (size : ℕ) (stop : NetKind × ℕ) (tokens : List Token) (stops : Sto
     one_stop (g ∷ gs) (h ∷ hs) (p ∷ ps) (q ∷ qs) e a b =
         one_stop gs hs ps qs (same_group g (joined_tokens gs ++ tokens) h (joined_tokens hs ++ rest) p q (sym (append_assoc g (joined_tokens gs) tokens) ∙ e ∙ append_assoc h (joined_tokens hs) rest) a.0.0 b.0.0).1 a.1 b.1
 
--- the tokens behind whole statements stop so
+-- the tokens after whole statements stop in the same way
 stopped : (text : Text) (before : List (List Token)) (stop : NetKind × ℕ) → StopsAt text before stop → (tokens : List Token) × (tokens_of text ≡ joined_tokens before ++ tokens) × StopsIn (length text) tokens stop
 stopped text before stop (at_token part token more e begins wrong partial is) = (part ++ token ∷ more, e ∙ append_assoc (joined_tokens before) part (token ∷ more), in_token part token more refl begins wrong partial is)
 stopped text before stop (at_end part e some begins partial is) = (part, e, in_end some begins partial is)
 stopped text before stop (at_pins part n driver word pins more e whole wrong is) = (part ++ more, e ∙ append_assoc (joined_tokens before) part more, in_pins part n driver word pins more refl whole wrong is)
 
--- tokens that stop so do it behind whole statements too
+-- tokens that stop also stop after whole statements, in the same way
 pub stops_behind : (text : Text) (before : List (List Token)) (tokens : List Token) (stop : NetKind × ℕ) → tokens_of text ≡ joined_tokens before ++ tokens → StopsIn (length text) tokens stop → StopsAt text before stop
 stops_behind text before tokens stop e (in_token part token more f begins wrong partial is) = at_token part token more (e ∙ ap (λ ts. joined_tokens before ++ ts) f ∙ sym (append_assoc (joined_tokens before) part (token ∷ more))) begins wrong partial is
 stops_behind text before tokens stop e (in_end some begins partial is) = at_end tokens e some begins partial is

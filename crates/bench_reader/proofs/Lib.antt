@@ -14,7 +14,7 @@ pub mod OutcomeLemmas
 pub mod AllLemmas
 pub mod NumberLemmas
 pub mod PhraseLemmas
--- What a text is once its names' drivers are judged
+-- What a text is after its names' drivers were checked
 pub mod DriverLemmas
 -- Texts that spell statements
 pub mod LineLemmas

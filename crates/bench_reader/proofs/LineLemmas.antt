@@ -11,7 +11,7 @@ use Rattle.bench_reader.specs.Scanning.{tokens_in}
 use Rattle.bench_reader.specs.Spelled.{Written, written_input, written_output, written_gate, spelled, spelled_pins, Spells, IsRun, HasRuns, pins_end, written_line}
 use Rattle.bench_reader.proofs.ScanLemmas.{skip_byte, no_tokens, name_tokens, begins, whole_text}
 
--- the text has these pieces that aren't blank, wherever it stands
+-- the text has these pieces that aren't blank, at whatever byte it begins
 abbrev pub Shows : Text → List Piece → Type 0
 Shows text ps = (byte : ℕ) → map (λ token. token.0) (tokens_in false byte text) ≡ ps
 
@@ -34,7 +34,7 @@ module _ (rest : Text) (ps : List Piece) (h : Shows rest ps) where
   feed_shows : Shows (10 ∷ rest) ps
   feed_shows byte = ap (map (λ token. token.0)) (skip_byte false byte 10 rest refl) ∙ h (byte + 1)
 
--- a run ends before a byte that no name has
+-- a run ends before a byte that isn't a byte of names
 run_ends : (t : Text) (b : ℕ) (rest : Text) → IsTrue (list_all is_name_byte t) → is_name_byte b ≡ false → prefix_len is_name_byte (t ++ b ∷ rest) ≡ length t
 run_ends [] b rest all off = rw off refl
 run_ends (x ∷ t) b rest all off = by (is_name_byte x) refl all (run_ends t b rest)

@@ -1,4 +1,4 @@
--- The names of statements, as names are added.
+-- The names of statements, while names are added.
 use Rattle.std.proofs.Common.{◌≡◌, ◌∙◌, ℕ, suc, ◌+◌, ◌≤◌, ◌<◌, take, get_or, Bool, true, false, List, [], ◌∷◌, ◌++◌, length, refl, ap, sym, append_assoc, arith, length-append}
 use Rattle.std.specs.Prelude.{map, All, filter, flat_map, not, ◌||◌, unwrap_or, position, if◌then◌else◌}
 use Rattle.std.specs.Str.{bytes_eq}
@@ -33,7 +33,7 @@ symmetric x y = by (bytes_eq x y) (bytes_eq y x) (λ e. (bytes_eq-Decides y x).1
 pub same_text : (x : Text) → bytes_eq x x ≡ true
 same_text x = (bytes_eq-Decides x x).1 refl
 
--- ---- a text behind others
+-- ---- a text after others
 
 module _ (x y : Text) where
   keep_one : (b : Bool) → bytes_eq x y ≡ b → filter (λ other. not (bytes_eq x other)) (y ∷ []) ≡ (if b then [] else y ∷ [])
@@ -53,7 +53,7 @@ distinct_more (x ∷ xs) y =
     by false true e = ap (λ ts. x ∷ ts) (filter-append (λ other. not (bytes_eq x other)) (distinct_names xs) (y ∷ []) ∙ ap (λ ts. filter (λ other. not (bytes_eq x other)) (distinct_names xs) ++ ts) (keep_one x y true e) ∙ append-nil (filter (λ other. not (bytes_eq x other)) (distinct_names xs)))
     by false false e = ap (λ ts. x ∷ ts) (filter-append (λ other. not (bytes_eq x other)) (distinct_names xs) (y ∷ []) ∙ ap (λ ts. filter (λ other. not (bytes_eq x other)) (distinct_names xs) ++ ts) (keep_one x y false e))
 
--- the same texts are among the distinct names
+-- the distinct names have the same texts
 distinct_members : (xs : List Text) (t : Text) → is_one_of (distinct_names xs) t ≡ is_one_of xs t
 distinct_members [] t = refl
 distinct_members (x ∷ xs) t = by (bytes_eq t x) refl (distinct_members xs t)
@@ -133,7 +133,7 @@ names_length names (n ∷ ns) = omega (arith, name_length names n.0, names_lengt
 
 -- ---- words that stay
 
--- what holds of each name
+-- the fact holds of each name
 abbrev pub AllNamed : (Named → Type 0) → List Named → Type 0
 AllNamed P [] = Unit {0}
 AllNamed P (n ∷ ns) = P n × AllNamed P ns

@@ -90,7 +90,7 @@ unmarked_is count ss marks numbered are =
     (All-weaker (λ (word : Word). word.name < count) (λ (word : Word). not (slice_index_or marks word.name false) ≡ not (has_number (filter_map driven_word ss) word.name)) (λ word h. ap not (are.each word.name h)) (flat_map used_words ss)
     (All-flat_map (λ (word : Word). word.name < count) used_words ss numbered.used))
 
--- ---- where nothing stands against the drivers
+-- ---- if nothing is wrong with the drivers
 
 missed_first : (p : ℕ × Word → Bool) (w : Word) (ws : List Word) (n : ℕ) → option_map (λ x. x.1) (find p (enumerate_from n (w ∷ ws))) ≡ None
     → (p (n, w) ≡ false) × (option_map (λ x. x.1) (find p (enumerate_from (n + 1) ws)) ≡ None)
@@ -105,7 +105,7 @@ missed p [] n d none j h = absurd (omega arith)
 missed p (w ∷ ws) n d none zero h = let e : n + 0 ≡ n = omega arith in rw e (missed_first p w ws n none).0
 missed p (w ∷ ws) n d none (suc j) h = let e : n + suc j ≡ n + 1 + j = omega arith in rw e (missed p ws (n + 1) d (missed_first p w ws n none).1 j (omega (arith, h)))
 
--- words of which none repeats a number have different numbers
+-- words have different numbers if none repeats a number
 pub numbers_differ : (words : List Word) → repeated_word words ≡ None → AllPairs (λ a b. a ≢ b) (map (λ word. word.name) words)
 unfolding repeated_word
 numbers_differ words none i j x lt h same =
@@ -143,7 +143,7 @@ has_named (w ∷ ws) number t =
       | inr there ↦ later w.name (map (λ word. word.name) ws) number (has_named ws number there)
     ]
 
--- where nothing is found, each fails the test
+-- if nothing is found, each fails the test
 none_passes : (p : Word → Bool) (words : List Word) → find p words ≡ None → All (λ word. p word ≡ false) words
 none_passes p [] none = All-nil (λ (word : Word). p word ≡ false)
 none_passes p (w ∷ ws) none =

@@ -1,4 +1,4 @@
--- Tokens are whole statements, or stop behind some.
+-- Tokens are whole statements, or stop after some.
 use Rattle.std.proofs.Common.{◌≡◌, ◌∙◌, ℕ, zero, suc, ◌+◌, ◌≤◌, true, false, List, [], ◌∷◌, ◌++◌, length, refl, ap, sym, append_assoc, arith, length-append, ◌⊎◌, inl, inr, Option, None, Some}
 use Rattle.std.specs.Prelude.{◌≢◌, Bool, IsTrue}
 use Rattle.std.proofs.lemmas.List.{append-nil}
@@ -24,7 +24,7 @@ data First (size : ℕ) (tokens : List Token) : Type 0 where
   whole : (group rest : List Token) (p : Phrase) → tokens ≡ group ++ rest → phrase_of group ≡ Some p → IsTrue (has_right_pins p) → First size tokens
   stops : (stop : NetKind × ℕ) → StopsIn size tokens stop → First size tokens
 
--- where a statement is whole, its pins are right or wrong
+-- if a statement is whole, its number of pins is right or wrong
 judged : (size : ℕ) (tokens group rest : List Token) (p : Phrase) → tokens ≡ group ++ rest → phrase_of group ≡ Some p → First size tokens
 judged size tokens group rest (input_phrase n) e f = whole group rest (input_phrase n) e f refl
 judged size tokens group rest (output_phrase n) e f = whole group rest (output_phrase n) e f refl
@@ -34,7 +34,7 @@ judged size tokens group rest (gate_phrase n driver word pins) e f = by (has_rig
     by true g = whole group rest (gate_phrase n driver word pins) e f g
     by false g = stops (kind.WrongPins, word.1) (in_pins group n driver word pins rest e f g refl)
 
--- tokens with which a statement can begin go on up to its end, or stop
+-- tokens with which a statement can begin continue up to its end, or stop
 goes_on : (size : ℕ) (tokens part rest : List Token) → tokens ≡ part ++ rest → tokens ≢ [] → CanBegin part → phrase_of part ≡ None → First size tokens
 goes_on size tokens part [] e some begins partial =
     let f : tokens ≡ part = e ∙ append-nil part in
@@ -54,7 +54,7 @@ goes_on size tokens part (x ∷ rest) e some begins partial =
 
 -- ---- all statements
 
--- Tokens are whole statements, or stop behind some.
+-- Tokens are whole statements, or stop after some.
 data Outcome (size : ℕ) (tokens : List Token) : Type 0 where
   reads : (groups : List (List Token)) (phrases : List Phrase) → tokens ≡ joined_tokens groups → ArePhrases groups phrases → Outcome size tokens
   halts : (before : List (List Token)) (phrases : List Phrase) (rest : List Token) (stop : NetKind × ℕ) → tokens ≡ joined_tokens before ++ rest → ArePhrases before phrases → StopsIn size rest stop → Outcome size tokens

@@ -1,4 +1,4 @@
--- The words of statements, by the names of the phrases that they are read from.
+-- The words of statements, by the names of the phrases from which they are read.
 use Rattle.std.proofs.Common.{◌≡◌, ◌∙◌, ℕ, zero, suc, ◌+◌, ◌<◌, inl, inr, Bool, true, false, not, List, [], ◌∷◌, ◌++◌, length, get_or, take, drop, refl, sym, subst, ap, arith}
 use Rattle.std.specs.Prelude.{map, filter, filter_map, flat_map, find, All, Contains, IsTrue, option_map, nat_lt, ◌==◌}
 use Rattle.std.specs.List.{enumerate_from, position_or_len}
@@ -62,7 +62,7 @@ number_is names text m =
     let here : get_or names place text ≡ text = sym (same_bytes text (get_or names place text) (passes_at_first (bytes_eq text) names text h)) in
     rw t (h, here)
 
--- two names have one number exactly where they are one text
+-- two names have one number exactly if they are one text
 same_number : (names : List Text) (a b : Text) → Contains names a → Contains names b → (name_number names a == name_number names b) ≡ bytes_eq a b
 same_number names a b ma mb =
     let na = number_is names a ma in

@@ -12,7 +12,7 @@ abbrev pub begins_with_name : List Piece → Bool
 begins_with_name (name_run text ∷ pieces) = true
 begins_with_name _ = false
 
--- what fails of each case fails of the choice
+-- a test that fails in each case fails for the choice
 choose : (p : List Piece → Bool) (t1 t2 t3 t4 t5 t6 : Bool) (x1 x2 x3 x4 x5 x6 x7 : List Piece)
     → (t1 ≡ true → p x1 ≡ false) → (t2 ≡ true → p x2 ≡ false) → (t3 ≡ true → p x3 ≡ false) → (t4 ≡ true → p x4 ≡ false) → (t5 ≡ true → p x5 ≡ false) → (t6 ≡ true → p x6 ≡ false) → p x7 ≡ false
     → p (if t1 then x1 else if t2 then x2 else if t3 then x3 else if t4 then x4 else if t5 then x5 else if t6 then x6 else x7) ≡ false
@@ -24,7 +24,7 @@ choose p false false false false true t6 x1 x2 x3 x4 x5 x6 x7 h1 h2 h3 h4 h5 h6 
 choose p false false false false false true x1 x2 x3 x4 x5 x6 x7 h1 h2 h3 h4 h5 h6 h7 = h6 refl
 choose p false false false false false false x1 x2 x3 x4 x5 x6 x7 h1 h2 h3 h4 h5 h6 h7 = h7
 
--- what holds of no name first doesn't hold of a joined name
+-- a test that fails if a name comes first fails for a joined name
 joined : (p : List Piece → Bool) → ((text : Text) (ps : List Piece) → p (name_run text ∷ ps) ≡ false) → (b : ℕ) (ps : List Piece) → p (join_name b ps) ≡ false
 joined p none b (name_run text ∷ ps) = none (b ∷ text) ps
 joined p none b _ = none (b ∷ []) _
@@ -33,7 +33,7 @@ module _ (b : ℕ) (ps : List Piece) where
   not_name : is_name_byte b ≡ false → begins_with_name (with_byte b ps) ≡ false
   not_name e = choose begins_with_name (is_blank b) (b == 40) (b == 41) (b == 44) (b == 61) (is_name_byte b) _ _ _ _ _ _ _ (λ t. refl) (λ t. refl) (λ t. refl) (λ t. refl) (λ t. refl) (λ t. cc) refl
 
--- a byte of a name is no other byte
+-- a byte of a name is none of the other bytes
 apart : (b n : ℕ) → nat_le 33 b ≡ true → n < 33 → (b == n) ≡ false
 apart b n h l = grind (arith, nat_tests)
 
@@ -60,7 +60,7 @@ alone : (b : ℕ) (ps : List Piece) → begins_with_name ps ≡ false → join_n
 alone b (name_run text ∷ ps) e = cc
 alone b _ e = refl
 
--- a text that begins with so many bytes of a name
+-- a name of these bytes before pieces, or the pieces alone if there are no bytes
 abbrev pub with_run : Text → List Piece → List Piece
 with_run [] ps = ps
 with_run (b ∷ bytes) ps = name_run (b ∷ bytes) ∷ ps

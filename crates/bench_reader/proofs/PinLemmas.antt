@@ -24,7 +24,7 @@ use Rattle.bench_reader.proofs.DriverPins.{name_first}
 use Rattle.bench_reader.proofs.StopLemmas.{stop_at}
 use Rattle.bench_reader.proofs.StateLemmas.{place_behind}
 
--- Up to a byte these pins are read, each with the comma behind it, and a name follows.
+-- Up to a byte these pins are read, each with the comma after it, and a name follows.
 pub record PinsSoFar (text : Text) (driver : Driver) (from : ℕ) (pins : List Lexeme) (byte : ℕ) : Type 0 where
   pub part : List Token
   pub whole : tokens_at text from ≡ part ++ tokens_at text byte
@@ -43,7 +43,7 @@ unfolding gate_pins
 no_pin Name run byte more g = absurd (g refl)
 no_pin _ run byte more g = refl
 
--- what can't stand first behind the bracket
+-- what can't come first after the bracket
 no_first : (driver : Driver) (kind : LexemeKind) (run : Text) (byte : ℕ) (more : List Token) → kind ≢ Name → (kind ≡ CloseBracket → takes driver 0 ≡ false) → driver_pins driver ((lexeme_piece kind run, byte) ∷ more) ≡ None
 unfolding driver_pins gate_pins
 no_first driver Name run byte more g h = absurd (g refl)
@@ -98,7 +98,7 @@ module _ (text : Text) (head : GateHead) (h : IsGateHead text head) where
       stop_at text HeadTokens (begin ++ part) byte a f next (ap (λ ts. ts ++ tokens_at text head.bracket.end) head_is ∙ ap (λ ts. begin ++ ts) whole) is (λ e. cc)
       (part_begins part more pins begins) (no_gate part none) (part_wrong part (token_in text a) wrong) (part_stop part a.kind (text_in text a) a.place.byte)
 
-  -- a lexeme that can't stand first
+  -- a lexeme that can't come first
   pub first_wrong : (a : Lexeme) (f : NetFault) → IsNext text head.bracket.end a → a.kind ≢ Name → (a.kind ≡ CloseBracket → takes driver 0 ≡ false) → f ≡ At (stop_kind a.kind) a.place → IsStop text HeadTokens f
   unfolding gate_pins driver_pins
   first_wrong a f next other closes is =

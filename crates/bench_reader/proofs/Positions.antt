@@ -11,7 +11,7 @@ use Rattle.bench_reader.specs.Numbering.{is_one_of}
 abbrev pub text_of : Vec ℕ Global → Text
 text_of v = v.items
 
--- a place is found exactly where some item passes
+-- a place is found exactly if some item passes
 pub found : {X : Type 0} (p : X → Bool) (xs : List X) → list_any p xs ≡ nat_lt (position_or_len p xs) (length xs)
 found p [] = refl
 found p (x ∷ xs) = by (p x) (found p xs)
@@ -60,7 +60,7 @@ number_is_new p (x ∷ xs) y e h = by (p x) (λ f. number_is_new p xs y f h) e
     by true more e = cc
     by false more e = let h = more e in (rw (h.0, one-add) refl, rw (h.1, one-add) refl, h.2)
 
--- the place of what stands among others
+-- the place of an item that is in a list
 pub placed : {X : Type 0} (p : X → Bool) (xs : List X) → list_any p xs ≡ true → (unwrap_or (position p xs) 0 ≡ position_or_len p xs) × (position_or_len p xs < length xs)
 placed p xs e =
     let t : nat_lt (position_or_len p xs) (length xs) ≡ true = sym (found p xs) ∙ e in

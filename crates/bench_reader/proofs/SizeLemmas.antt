@@ -46,7 +46,7 @@ pins_size ((name_run text, at) ∷ (comma_mark, b) ∷ tokens) pins e = by (gate
     by (Some ps) more e = let f : (text, at) ∷ ps ≡ pins = cc in rw (← f) (omega (arith, more ps refl))
 pins_size _ pins e = cc
 
--- a statement has no more names than tokens, and is no larger
+-- a statement has at most `size` names, and its own size is at most `size`
 pub record IsSmall (size : ℕ) (p : Phrase) : Type 0 where
   pub names : length (phrase_names p) ≤ size
   pub statement : (text : Text) (names : List Text) → statement_size (statement_of text names p) ≤ size

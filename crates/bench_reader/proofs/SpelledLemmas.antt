@@ -43,19 +43,19 @@ split (p ∷ ps) qs tokens e =
 
 -- ---- one statement
 
--- the statement that a phrase was written as
+-- the statement as which a phrase was written
 abbrev pub written_of : Phrase → Written
 written_of (input_phrase n) = written_input n.0
 written_of (output_phrase n) = written_output n.0
 written_of (gate_phrase n driver word pins) = written_gate n.0 word.0 (map (λ pin. pin.0) pins)
 
--- the word of a gate says what drives its name
+-- the word of a gate means what drives its name
 abbrev pub HasWord : Phrase → Type 0
 HasWord (input_phrase n) = Unit {0}
 HasWord (output_phrase n) = Unit {0}
 HasWord (gate_phrase n driver word pins) = driver_of word.0 ≡ Some driver
 
--- tokens are a phrase that was written so
+-- the tokens are those of a phrase that was written as `w`
 record IsGroup (w : Written) (group : List Token) : Type 0 where
   phrase : Phrase
   is : phrase_of group ≡ Some phrase
@@ -128,7 +128,7 @@ read_group (written_gate n word pins) group e right = read_gate n word pins grou
 
 -- ---- all statements
 
--- each has its word and right pins
+-- each gate has its word and a right number of pins
 abbrev AreWorded : List Phrase → Type 0
 AreWorded [] = Unit {0}
 AreWorded (p ∷ ps) = (HasWord p × IsTrue (has_right_pins p)) × AreWorded ps
@@ -210,7 +210,7 @@ none_fails : {X : Type 0} (p : X → Bool) (xs : List X) → All (λ x. p x ≡ 
 none_fails p [] each = refl
 none_fails p (x ∷ xs) each = rw (All-head (λ y. p y ≡ false) x xs each) (none_fails p xs (All-tail (λ y. p y ≡ false) x xs each))
 
--- a text that these names have is among them
+-- a text of one of these names is among them
 among_texts : (ns : List Named) (text : Text) → Contains (texts_of ns) text → is_among ns text ≡ true
 among_texts [] text (k, h, e) = absurd (omega (arith, h))
 among_texts (n ∷ ns) text (k, h, e) =

@@ -1,4 +1,4 @@
--- What a reader answers at each step of a statement.
+-- What a reader returns at each step of a statement.
 use Rattle.std.proofs.Common.{◌≡◌, ◌∙◌, List, [], ◌∷◌, ◌++◌, length, refl, ap, sym, None, Some}
 use Rattle.std.specs.Prelude.{◌≢◌, IsTrue}
 use Rattle.std.proofs.lemmas.List.Elements.{All-nil, All-cons}
@@ -24,7 +24,7 @@ use Rattle.bench_reader.proofs.StopLemmas.{stop_at, one_begins, one_partial, wor
 pub place_behind : (text : Text) (a : Lexeme) (place : Place) → IsLexeme text a → place.byte ≡ a.end → place.line ≡ a.place.line → IsPlace text place
 place_behind text a place l b e = is_place text place (ap (line_of text) b ∙ l.line ∙ sym e)
 
--- the token of a lexeme of a known kind, and the tokens from it on
+-- the token of a lexeme of a known kind, and the tokens starting with it
 pub name_token : (text : Text) (a : Lexeme) → a.kind ≡ Name → token_in text a ≡ (name_run (text_in text a), a.place.byte)
 name_token text a e = rw e refl
 
@@ -79,7 +79,7 @@ module _ (text : Text) (word bracket : Lexeme) (is_name : word.kind ≡ Name) (i
           right says.Input = refl
           right says.Output = refl
 
--- ---- the begin of a gate
+-- ---- the beginning of a gate
 
 module _ (text : Text) (name equals : Lexeme) (is_name : name.kind ≡ Name) (is_equals : equals.kind ≡ Equals) where
   abbrev pub begun : List Token

@@ -1,4 +1,4 @@
--- Where a statement can't go on, state by state.
+-- Statements that can't go on, state by state.
 use Rattle.std.proofs.Common.{◌≡◌, ◌∙◌, ℕ, List, [], ◌∷◌, ◌++◌, length, refl, ap, sym, None, Some}
 use Rattle.std.specs.Prelude.{◌≢◌, codes}
 use Rattle.std.proofs.lemmas.List.{append-nil}
@@ -37,7 +37,7 @@ pub nothing_partial : phrase_of [] ≡ None
 unfolding phrase_of
 nothing_partial = refl
 
--- the same where nothing stands before
+-- the same if nothing comes before
 pub stop_first : (text : Text) (a : Lexeme) (f : NetFault) → IsPlace text a.place → f ≡ At (stop_kind a.kind) a.place → a.kind ≢ End → a.kind ≢ Name → IsStop text (tokens_from text a) f
 unfolding phrase_of
 stop_first text a f p is some other = rw is (p, stops (length text) (tokens_from text a) [] a.kind (text_in text a) a.place.byte (tokens_at text a.end) refl (λ k. absurd (some k)) nothing_begins nothing_partial (wrong a.kind (text_in text a) a.place.byte other) (stop a.kind (text_in text a) a.place.byte))
@@ -73,7 +73,7 @@ module _ (w : Text) (a : ℕ) where
 
 -- ---- inputs and observed names
 
--- with a name in brackets the word is a statement
+-- with a name in brackets the word forms a statement
 abbrev pub Observes : Text → Type 0
 Observes w = (n : Named) → (p : Phrase) × (observed_phrase w n ≡ Some p)
 
@@ -126,7 +126,7 @@ module _ (w : Text) (a b : ℕ) where
     unfolding phrase_of
     observed_whole close = refl
 
--- ---- the begin of a gate
+-- ---- the beginning of a gate
 
 module _ (n : Text) (a b : ℕ) where
   pub equals_begins : CanBegin ((name_run n, a) ∷ (equals_mark, b) ∷ [])
@@ -172,12 +172,12 @@ module _ (n : Text) (a b : ℕ) where
     bracket_stop BadByte run byte = refl
     bracket_stop _ run byte = refl
 
--- a name with which nothing can go on
+-- a name after which nothing can go on
 pub stop_second : (text : Text) (word a : Lexeme) (f : NetFault) → word.kind ≡ Name → IsNext text word.end a → a.kind ≢ OpenBracket → a.kind ≢ Equals → f ≡ At (stop_kind a.kind) a.place → IsStop text (tokens_from text word) f
 stop_second text word a f e next g h is =
     stop_at text (tokens_from text word) ((name_run (text_in text word), word.place.byte) ∷ []) word.end a f next (rw e refl) is (λ e. cc) (one_begins (text_in text word) word.place.byte) (one_partial (text_in text word) word.place.byte)
     (one_wrong (text_in text word) word.place.byte a.kind (text_in text a) a.place.byte g h) (one_stop (text_in text word) word.place.byte a.kind (text_in text a) a.place.byte g)
 
--- the tokens from a name on, by the lexeme behind it
+-- the tokens starting with a name, by the lexeme after it
 pub name_first : (text : Text) (word a : Lexeme) → word.kind ≡ Name → IsNext text word.end a → tokens_from text word ≡ token_in text word ∷ tokens_from text a
 name_first text word a e next = rw e (ap (λ ts. (name_run (text_in text word), word.place.byte) ∷ ts) next.tokens)

@@ -1,4 +1,4 @@
--- What single bytes of a text begin, and which are skipped.
+-- Which lexemes single bytes of a text begin, and which bytes are skipped.
 use Rattle.std.specs.Prelude.{◌≡◌, ℕ, ◌≤◌, ◌<◌, Bool, false, not, ◌&&◌, ◌||◌, length, slice_index, ◌==◌, if◌then◌else◌}
 use Rattle.std.specs.List.{prefix_len}
 use Rattle.text_fields.specs.Fields.{Text}
@@ -8,11 +8,11 @@ use Rattle.bench_reader.specs.declared.scanner.LexemeKind.TheVariants.{OpenBrack
 use Rattle.bench_reader.specs.Tokens.{is_blank, is_name_byte}
 use Rattle.bench_reader.specs.Scanning.{tokens_at, IsPlace}
 
--- what a byte that isn't skipped begins
+-- the kind of lexeme that a byte begins, if it isn't skipped
 abbrev pub kind_at : ℕ → LexemeKind
 kind_at b = if b == 40 then OpenBracket else if b == 41 then CloseBracket else if b == 44 then Comma else if b == 61 then Equals else if is_name_byte b then Name else BadByte
 
--- how long what a text begins with is
+-- the length of the lexeme of this kind with which a text begins
 abbrev pub length_at : LexemeKind → Text → ℕ
 length_at Name text = prefix_len is_name_byte text
 length_at _ text = 1
@@ -21,11 +21,11 @@ length_at _ text = 1
 abbrev pub is_skipped : ℕ → Bool
 is_skipped b = is_blank b || b == 35
 
--- whether the bytes behind a skipped one are inside a comment
+-- whether the bytes after a skipped one are inside a comment
 abbrev pub inside_behind : Bool → ℕ → Bool
 inside_behind inside b = not (b == 10) && (inside || b == 35)
 
--- From a byte on, the next one that is neither blank nor in a comment stands here, or here the text ends.
+-- The first byte, starting at `byte`, that is neither blank nor in a comment is at `next`, or the text ends there.
 pub record IsSkipped (text : Text) (byte : ℕ) (next : Place) : Type 0 where
   pub tokens : tokens_at text byte ≡ tokens_at text next.byte
   pub place : IsPlace text next

@@ -8,13 +8,14 @@ use Rattle.bench_reader.specs.declared.statement.Word.{Word}
 use Rattle.bench_reader.specs.declared.statement.Statement.{Statement}
 use Rattle.bench_reader.specs.declared.statement.Statement.TheVariants.{Input, Output, Drive, Flop}
 
--- the word that a statement drives, and those that it uses
+-- the word that a statement drives, if it drives one
 abbrev pub driven_word : Statement → Option Word
 driven_word (Input n) = Some n
 driven_word (Output n) = None
 driven_word (Drive n kind pins) = Some n
 driven_word (Flop q d) = Some q
 
+-- the words that a statement uses
 abbrev pub used_words : Statement → List Word
 used_words (Input n) = []
 used_words (Output n) = n ∷ []
@@ -25,7 +26,7 @@ used_words (Flop q d) = d ∷ []
 abbrev pub has_number : List Word → ℕ → Bool
 has_number words number = list_any (λ word. word.name == number) words
 
--- the first word whose number an earlier one has
+-- the first word with the number of an earlier one
 unfoldable pub repeated_word : List Word → Option Word
 repeated_word words = option_map (λ x. x.1) (find (λ x. has_number (take x.0 words) x.1.name) (enumerate_from 0 words))
 
@@ -37,21 +38,23 @@ second_driver statements = repeated_word (filter_map driven_word statements)
 unfoldable pub missing_driver : List Statement → Option Word
 missing_driver statements = find (λ word. not (has_number (filter_map driven_word statements) word.name)) (flat_map used_words statements)
 
--- what stands first against the drivers of names
+-- the rule and the place: of the word that repeats a driven name, or else of the used one without a driver
 abbrev pub fault_by : Option Word → Option Word → Option (NetKind × Place)
 fault_by (Some word) missing = Some (DrivenTwice, word.place)
 fault_by None (Some word) = Some (Undriven, word.place)
 fault_by None None = None
 
+-- the first word that drives a name again, or else the first use of a name that nothing drives, as a rule and a place;
+-- none if each name is driven once and no other is used
 abbrev pub driver_fault : List Statement → Option (NetKind × Place)
 driver_fault statements = fault_by (second_driver statements) (missing_driver statements)
 
--- Each word has the number of one of so many names.
+-- Each word has the number of one of `count` names.
 pub record AreNumbered (count : ℕ) (statements : List Statement) : Type 0 where
   pub driven : All (λ word. word.name < count) (filter_map driven_word statements)
   pub used : All (λ statement. All (λ word. word.name < count) (used_words statement)) statements
 
--- The marks are at the numbers of these words.
+-- There is a mark for each of `count` numbers, which is set exactly if one of these words has the number.
 pub record AreMarksOfWords (count : ℕ) (words : List Word) (marks : List Bool) : Type 0 where
   pub whole : length marks ≡ count
   pub each : (number : ℕ) → number < count → slice_index_or marks number false ≡ has_number words number

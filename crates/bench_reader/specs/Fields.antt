@@ -4,8 +4,10 @@ use Rattle.bench_reader.specs.Netlist.{Netlist}
 use Rattle.bench_reader.specs.Names.{texts_of_names}
 use Rattle.bench_reader.specs.Driven.{IsDriven}
 
+-- the netlist that the fields show
 abbrev pub netlist_in : Inside → Netlist
 netlist_in a = record { statements = a.statements.items; names = texts_of_names a.names.items }
 
+-- Each name is driven once, and no other is used.
 abbrev pub AreStatementsFields : Inside → Type 0
 AreStatementsFields a = IsDriven (netlist_in a)

@@ -12,19 +12,19 @@ use Rattle.bench_reader.specs.Spelled.{Written, AreRightTogether, Spells, HasRun
 abbrev pub AcceptedOrRefused : Type 0
 AcceptedOrRefused = (text : Text) → ((netlist : Netlist) × IsNetlist text netlist) ⊎ ((refusal : NetKind × ℕ) × TextRefused text refusal)
 
--- no text is both
+-- no text is both accepted and refused
 abbrev pub NeverAcceptedAndRefused : Type 0
 NeverAcceptedAndRefused = (text : Text) (netlist : Netlist) (refusal : NetKind × ℕ) → IsNetlist text netlist → TextRefused text refusal → ⊥
 
--- a text is refused by one rule at one byte
+-- a text is refused by at most one rule, at one byte
 abbrev pub OneRefusal : Type 0
 OneRefusal = (text : Text) (one other : NetKind × ℕ) → TextRefused text one → TextRefused text other → one ≡ other
 
--- a text reads as one netlist
+-- a text reads as at most one netlist
 abbrev pub OneNetlist : Type 0
 OneNetlist = (text : Text) (one other : Netlist) → IsNetlist text one → IsNetlist text other → one ≡ other
 
--- a text that isn't too long and spells right statements is accepted, and reads as them
+-- a text that isn't too long and spells right statements is accepted, and reads as these statements
 abbrev pub SpelledIsAccepted : Type 0
 SpelledIsAccepted = (text : Text) (statements : List Written) → length text ≤ NETLIST_LIMIT → Spells text statements → AreRightTogether statements → (netlist : Netlist) × IsNetlist text netlist × IsAsWritten statements netlist
 

@@ -5,7 +5,7 @@ use Rattle.bench_reader.specs.Netlist.{Netlist}
 use Rattle.bench_reader.specs.Grammar.{Phrase}
 use Rattle.bench_reader.specs.Reading.{IsText, netlist_of}
 
--- The text is statements, which read as this netlist.
+-- The text consists of statements, which read as this netlist.
 pub record IsParsed (text : Text) (n : Netlist) : Type 0 where
   pub phrases : List Phrase
   pub is_text : IsText text phrases

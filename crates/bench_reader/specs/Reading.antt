@@ -1,4 +1,4 @@
--- What a netlist's text reads as.
+-- What a netlist's text reads as: the statements that its tokens form, and the names by first appearance.
 use Rattle.std.specs.Prelude.{◌≡◌, ℕ, ◌≤◌, Bool, not, List, [], ◌∷◌, map, filter, filter_map, flat_map, find, length, take, unwrap_or, position, Option, Some, None, IsTrue, option_map}
 use Rattle.std.specs.List.{AllZip, list_any, enumerate_from}
 use Rattle.std.specs.Str.{bytes_eq}
@@ -14,7 +14,7 @@ use Rattle.bench_reader.specs.Grammar.{Named, Driver, gate_driver, flip_flop_dri
 
 -- ---- names
 
--- each text once, at its first place
+-- each text once, in order of its first place
 abbrev pub distinct_names : List Text → List Text
 distinct_names [] = []
 distinct_names (text ∷ texts) = text ∷ filter (λ other. not (bytes_eq text other)) (distinct_names texts)
@@ -23,18 +23,19 @@ distinct_names (text ∷ texts) = text ∷ filter (λ other. not (bytes_eq text 
 unfoldable pub names_of : List Phrase → List Text
 names_of phrases = distinct_names (map (λ n. n.0) (flat_map phrase_names phrases))
 
--- whether a name is among some
+-- whether a name is one of `names`
 abbrev pub is_among : List Named → Text → Bool
 is_among names text = list_any (λ n. bytes_eq n.0 text) names
 
--- the names that are driven, and those that are used, in order
+-- the names that are driven, in order
 abbrev pub driven_names : List Phrase → List Named
 driven_names phrases = filter_map driven_name phrases
 
+-- the names that are used, in order
 abbrev pub all_used_names : List Phrase → List Named
 all_used_names phrases = flat_map used_names phrases
 
--- the first name that is driven after it was driven before
+-- the first name that is driven after it was already driven
 unfoldable pub driven_twice : List Phrase → Option Named
 driven_twice phrases = option_map (λ x. x.1) (find (λ x. is_among (take x.0 (driven_names phrases)) x.1.0) (enumerate_from 0 (driven_names phrases)))
 
@@ -44,6 +45,7 @@ undriven phrases = find (λ n. not (is_among (driven_names phrases) n.0)) (all_u
 
 -- ---- statements with numbered names
 
+-- the place of a byte: its number and its line
 abbrev pub place_of : Text → ℕ → Place
 place_of text byte = record { byte = byte; line = line_of text byte }
 
@@ -55,7 +57,7 @@ name_number names text = unwrap_or (position (bytes_eq text) names) 0
 abbrev pub named_word : Text → List Text → Named → Word
 named_word text names n = record { name = name_number names n.0; place = place_of text n.1 }
 
--- A phrase as a statement, where each name is this word.
+-- A phrase as a statement, with the word that `word` gives for each name.
 module _ (word : Named → Word) where
   abbrev pub first_word : List Named → Named → Word
   first_word [] n = word n
@@ -70,9 +72,11 @@ module _ (word : Named → Word) where
   statement_with (output_phrase n) = Output (word n)
   statement_with (gate_phrase n driver at pins) = driven_statement driver n pins
 
+-- a phrase as a statement, with the number and the place of each of its names
 unfoldable pub statement_of : Text → List Text → Phrase → Statement
 statement_of text names phrase = statement_with (named_word text names) phrase
 
+-- the statements with their names numbered, and the names in order of first appearance
 abbrev pub netlist_of : Text → List Phrase → Netlist
 netlist_of text phrases = record { statements = map (statement_of text (names_of phrases)) phrases; names = names_of phrases }
 
@@ -81,11 +85,11 @@ netlist_of text phrases = record { statements = map (statement_of text (names_of
 abbrev pub joined_tokens : List (List Token) → List Token
 joined_tokens groups = flat_map (λ group. group) groups
 
--- The groups of tokens are these statements, one for each.
+-- The groups of tokens form these statements, one each, with right numbers of pins.
 abbrev pub ArePhrases : List (List Token) → List Phrase → Type 0
 ArePhrases groups phrases = AllZip (λ group phrase. (phrase_of group ≡ Some phrase) × IsTrue (has_right_pins phrase)) groups phrases
 
--- The text is these statements, one after another.
+-- The text has at most `NETLIST_LIMIT` bytes and consists of these statements, one after another.
 pub record IsText (text : Text) (phrases : List Phrase) : Type 0 where
   pub short : length text ≤ NETLIST_LIMIT
   pub groups : List (List Token)

@@ -1,4 +1,4 @@
--- The tokens of a text from a byte on, and what a reader that goes from token to token holds.
+-- The tokens of a text starting at a byte, and what a reader knows that goes from token to token.
 use Rattle.std.specs.Prelude.{◌≡◌, ℕ, ◌≤◌, Bool, false, not, List, [], ◌∷◌, length, filter, drop, slice_range}
 use Rattle.text_fields.specs.Fields.{Text}
 use Rattle.bench_reader.specs.declared.fault.Place.{Place}
@@ -9,14 +9,15 @@ use Rattle.bench_reader.specs.Tokens.{without_comments, Piece, blank_piece, open
 use Rattle.bench_reader.specs.Grammar.{Named}
 use Rattle.bench_reader.specs.Reading.{place_of}
 
--- the tokens of a text whose first byte has this number; the flag says that it begins inside a comment
+-- the tokens of `rest`, whose first byte has the number `byte`; the flag says whether it begins inside a comment
 unfoldable pub tokens_in : Bool → ℕ → Text → List Token
 tokens_in inside byte rest = filter (λ token. not (is_blank_piece token.0)) (placed_pieces byte (pieces (without_comments inside rest)))
 
--- the tokens of a text from a byte on that stands in no comment
+-- the tokens of a text starting at a byte that is in no comment
 abbrev pub tokens_at : Text → ℕ → List Token
 tokens_at text byte = tokens_in false byte (drop byte text)
 
+-- The place has the line of its byte.
 abbrev pub IsPlace : Text → Place → Type 0
 IsPlace text place = place ≡ place_of text place.byte
 
@@ -26,9 +27,11 @@ IsPlace text place = place ≡ place_of text place.byte
 abbrev pub text_in : Text → Lexeme → Text
 text_in text a = slice_range text a.place.byte a.end
 
+-- the bytes of a lexeme, with the number of the first one
 abbrev pub named_in : Text → Lexeme → Named
 named_in text a = (text_in text a, a.place.byte)
 
+-- the piece that a lexeme of this kind with these bytes is
 abbrev pub lexeme_piece : LexemeKind → Text → Piece
 lexeme_piece OpenBracket run = open_bracket
 lexeme_piece CloseBracket run = close_bracket
@@ -38,18 +41,20 @@ lexeme_piece Name run = name_run run
 lexeme_piece BadByte run = bad_byte
 lexeme_piece End run = blank_piece
 
+-- the token of a lexeme
 abbrev pub token_in : Text → Lexeme → Token
 token_in text a = (lexeme_piece a.kind (text_in text a), a.place.byte)
 
--- the tokens from a lexeme on
+-- the tokens starting with a token; none if it is the end of the text
 abbrev pub tokens_with : LexemeKind → Token → List Token → List Token
 tokens_with End token more = []
 tokens_with _ token more = token ∷ more
 
+-- the tokens starting at a lexeme
 abbrev pub tokens_from : Text → Lexeme → List Token
 tokens_from text a = tokens_with a.kind (token_in text a) (tokens_at text a.end)
 
--- A lexeme stands at its place, on one line; the end of the text is behind its last byte.
+-- A lexeme is at its place, inside the text and on one line; the end of the text is after its last byte.
 pub record IsLexeme (text : Text) (a : Lexeme) : Type 0 where
   pub place : IsPlace text a.place
   pub forward : a.place.byte ≤ a.end
@@ -57,7 +62,7 @@ pub record IsLexeme (text : Text) (a : Lexeme) : Type 0 where
   pub line : line_of text a.end ≡ a.place.line
   pub end : a.kind ≡ End → a.place.byte ≡ length text
 
--- The lexeme is the next one from a byte on.
+-- The lexeme is the next one, starting at `byte`.
 pub record IsNext (text : Text) (byte : ℕ) (a : Lexeme) : Type 0 where
   pub tokens : tokens_at text byte ≡ tokens_from text a
   pub lexeme : IsLexeme text a

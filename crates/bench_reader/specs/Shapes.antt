@@ -20,7 +20,7 @@ use Rattle.bench_reader.specs.Grammar.{Named, gate_driver, flip_flop_driver, dri
 use Rattle.bench_reader.specs.Grammar as grammar
 use Rattle.bench_reader.specs.Scanning.{tokens_at, IsPlace, text_in, named_in, token_in, IsLexeme}
 
--- the rule that a lexeme breaks with which a statement can't go on
+-- the rule that is broken by a lexeme with which a statement can't go on
 abbrev pub stop_kind : LexemeKind → NetKind
 stop_kind lexeme.BadByte = kind.BadByte
 stop_kind _ = kind.Expected
@@ -33,6 +33,7 @@ abbrev pub port_phrase : Port → Named → Phrase
 port_phrase port.Input n = input_phrase n
 port_phrase port.Output n = output_phrase n
 
+-- the statement that a shape is, with its names
 abbrev pub phrase_in : Text → Shape → Phrase
 phrase_in text (shape.Port port n) = port_phrase port (named_in text n)
 phrase_in text (shape.Gate n driver word pins) = gate_phrase (named_in text n) (driver_in driver) (named_in text word) (map (named_in text) pins.items)
@@ -42,7 +43,7 @@ abbrev pub names_in : Shape → List Lexeme
 names_in (shape.Port port n) = n ∷ []
 names_in (shape.Gate n driver word pins) = n ∷ pins.items
 
--- The tokens begin with this statement, and it ends here.
+-- The tokens begin with this statement, its number of pins is right, and the place is after it.
 pub record IsStatement (text : Text) (tokens : List Token) (found : Shape × Place) : Type 0 where
   pub group : List Token
   pub whole : tokens ≡ group ++ tokens_at text found.1.byte
@@ -57,7 +58,7 @@ pub record IsStatement (text : Text) (tokens : List Token) (found : Shape × Pla
 abbrev pub head_tokens : Text → GateHead → List Token
 head_tokens text head = token_in text head.name ∷ token_in text head.equals ∷ token_in text head.word ∷ token_in text head.bracket ∷ []
 
--- The tokens of the begin of a gate stand where they say, and its word says this.
+-- The tokens at the beginning of a gate are at their places, and its word means this.
 pub record IsGateHead (text : Text) (head : GateHead) : Type 0 where
   pub name : IsLexeme text head.name
   pub is_name : head.name.kind ≡ lexeme.Name
@@ -68,7 +69,7 @@ pub record IsGateHead (text : Text) (head : GateHead) : Type 0 where
   pub bracket : IsLexeme text head.bracket
   pub driver : driver_of (text_in text head.word) ≡ Some (driver_in head.driver)
 
--- Behind the begin of a gate stand these pins, and the closing bracket ends here.
+-- The beginning of a gate is followed by these pins and a closing bracket, and the place is after that.
 pub record ArePins (text : Text) (head : GateHead) (found : Vec Lexeme Global × Place) : Type 0 where
   pub group : List Token
   pub whole : tokens_at text head.bracket.end ≡ group ++ tokens_at text found.1.byte

@@ -7,7 +7,8 @@ use crate::parsed::Parsed;
 use crate::statement::{Statement, Word};
 use std::alloc::{AllocError, Global};
 
-// The first name that is driven after it was driven before, else the first use of a name that nothing drives.
+// Returns the first word that drives a name again, or else the first use of a name that nothing drives, with the rule
+// and the place.
 pub(crate) fn check_drivers(
     alloc: Global,
     parsed: &Parsed,
@@ -21,7 +22,7 @@ pub(crate) fn check_drivers(
     Ok(fault_of(marks.as_mut_slice(), driven.as_slice(), statements))
 }
 
-// What stands against the drivers of names, by a mark for each name.
+// Returns what is wrong with the drivers of names, with `marks` as a mark for each name.
 fn fault_of(
     marks: &mut [bool],
     driven: &[Word],
@@ -39,7 +40,7 @@ fn fault_of(
     Some((NetKind::Undriven, word.place))
 }
 
-// The words that are driven, in order.
+// Returns the words that are driven, in order.
 fn driven_words(alloc: Global, statements: &[Statement]) -> Result<Vec<Word>, AllocError>
     ensures { IfOk result (λ words. words.items ≡ filter_map driven_word statements.now) }
 {
@@ -57,7 +58,7 @@ fn driven_word(statement: &Statement) -> Option<Word>
     }
 }
 
-// Marks the numbers of words, up to the first one that is marked already.
+// Marks the numbers of words. Stops at the first word whose number is already marked, and returns it.
 fn mark_words(marks: &mut [bool], words: &[Word]) -> Option<Word>
     requires clear { marks.old ≡ replicate (length marks.old) false }
     requires numbered { All (λ word. word.name < length marks.old) words.now }
@@ -73,7 +74,7 @@ fn mark_words(marks: &mut [bool], words: &[Word]) -> Option<Word>
     None
 }
 
-// The first use of a name that isn't marked.
+// Returns the first use of a name that isn't marked.
 fn first_unmarked(marks: &[bool], statements: &[Statement]) -> Option<Word>
     requires { All (λ statement. All (λ word. word.name < length marks.now) (used_words statement)) statements.now }
     ensures { result ≡ unmarked marks.now (flat_map used_words statements.now) }

@@ -6,12 +6,12 @@ use net_model::Names;
 use std::alloc::{AllocError, AllocFailed};
 use thiserror::Error;
 
-/// Which rule of the text is broken.
+/// The rule of the text that is broken.
 #[derive(Clone, Copy, Debug, PartialEq, Eq)]
 pub enum NetKind {
-    /// A byte that may stand only in comments.
+    /// A byte that is allowed only in comments.
     BadByte,
-    /// The statement can't go on so, or the text ends inside it.
+    /// The statement can't go on like this, or the text ends inside it.
     Expected,
     /// A word is no gate's, or is neither `INPUT` nor `OUTPUT`.
     UnknownGate,
@@ -25,15 +25,15 @@ pub enum NetKind {
     TooLong,
 }
 
-/// A byte of the text, from 0 on, and its line, from 1 on.
+/// A byte of the text, counted from 0, and its line, counted from 1.
 #[derive(Clone, Copy, Debug, Default, PartialEq, Eq)]
 pub struct Place {
     pub byte: u32,
     pub line: u32,
 }
 
-/// Why a netlist is refused: a rule and a place; a loop of gates, by the place of the name that its walk's first gate drives
-/// and the names along it; or want of memory.
+/// Why a netlist is refused: a rule and a place; a loop of gates, by the place of the name that its walk's first gate
+/// drives and by the names along the walk; or missing memory.
 #[derive(Debug, Drop, Error)]
 pub enum NetFault {
     #[error("a rule of the netlist is broken")]

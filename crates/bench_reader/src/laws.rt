@@ -11,17 +11,17 @@ pub fn never_accepted_and_refused()
     ensures { NeverAcceptedAndRefused }
 {}
 
-/// A text is refused by one rule at one byte.
+/// A text is refused by at most one rule, at one byte.
 pub fn one_refusal()
     ensures { OneRefusal }
 {}
 
-/// A text reads as one netlist.
+/// A text reads as at most one netlist.
 pub fn one_netlist()
     ensures { OneNetlist }
 {}
 
-/// A text of at most `NETLIST_LIMIT` bytes that spells right statements is accepted, and reads as them.
+/// A text of at most `NETLIST_LIMIT` bytes that spells right statements is accepted, and reads as these statements.
 pub fn spelled_is_accepted()
     ensures { SpelledIsAccepted }
 {}

@@ -15,7 +15,7 @@ use crate::word::{Driver, Port};
 use indexmap::IndexSet;
 use std::alloc::{AllocError, Global};
 
-// The number of a name; a new one gets the next number.
+// Returns the number of a name. A new name gets the next number.
 fn number_of(alloc: Global, names: &mut IndexSet<Vec<u8>>, name: &[u8]) -> Result<u32, AllocError>
     requires { length (texts_in names.old) < 2 ^ 31 }
     ensures names { OnOk result (texts_in names.new ≡ with_name (texts_in names.old) name.now) }
@@ -30,7 +30,6 @@ fn number_of(alloc: Global, names: &mut IndexSet<Vec<u8>>, name: &[u8]) -> Resul
     Ok(number)
 }
 
-// The word of a name.
 fn word(
     alloc: Global,
     names: &mut IndexSet<Vec<u8>>,
@@ -49,7 +48,6 @@ fn word(
     })
 }
 
-// The words of pins.
 fn words(
     alloc: Global,
     names: &mut IndexSet<Vec<u8>>,
@@ -88,7 +86,7 @@ fn gate_statement(driver: Driver, name: Word, pins: Words) -> Statement
     }
 }
 
-/// The statement of a shape, whose names get numbers as they come.
+/// Returns the statement of a shape. A name that is new gets the next number.
 pub(crate) fn statement(
     alloc: Global,
     names: &mut IndexSet<Vec<u8>>,

@@ -1,4 +1,4 @@
-//! The statements of a text, before it is judged which names are driven.
+//! The statements of a text, before their names are checked for drivers.
 use crate::statement::Statement;
 use std::marker::Model;
 

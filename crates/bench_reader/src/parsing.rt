@@ -14,7 +14,7 @@ use crate::statement::Statement;
 use indexmap::IndexSet;
 use std::alloc::Global;
 
-/// Reads a text as statements, or answers the first rule of the grammar that it breaks.
+/// Reads a text as statements, or returns the first rule of the grammar that it breaks.
 pub(crate) fn parse(alloc: Global, bytes: &[u8]) -> Result<Parsed, NetFault>
     requires { length bytes.now ≤ NETLIST_LIMIT }
     ensures ok { IfOk result (IsParsed bytes.now) }
@@ -27,7 +27,7 @@ pub(crate) fn parse(alloc: Global, bytes: &[u8]) -> Result<Parsed, NetFault>
     Ok(Parsed { statements, names })
 }
 
-// Reads all statements of a text, and the names in them.
+// Reads all statements of a text, and their names, into `statements` and `names`.
 fn add_statements(
     alloc: Global,
     bytes: &[u8],

@@ -1,4 +1,4 @@
-//! Reading a netlist's text.
+//! `read`: the statements of a netlist's text, or the first rule that it breaks.
 ghost use Rattle.std.specs.Prelude.{◌≡◌, ◌<◌, None, IfOk, OnOk, IfErr, count_by, ◌==◌, length};
 ghost use Rattle.text_fields.specs.Fields.{Text};
 ghost use Rattle.bench_reader.specs.Drivers.{driver_fault, AreNumbered};
@@ -13,15 +13,14 @@ use crate::parsing::parse;
 use crate::statement::Statements;
 use std::alloc::Global;
 
-/// The most bytes of a netlist.
+/// The maximum number of bytes of a netlist.
 pub const NETLIST_LIMIT: u64 = 16_777_216;
 
-/// Reads a netlist: statements in the `.bench` format of Brglez and Fujiwara (1985), with comments from `#` to the end of a line.
-///
-/// # Errors
-/// `At` with the first rule that the text breaks and where: a text of more than [`NETLIST_LIMIT`] bytes; then, from left to right, the
-/// rules of bytes, words and statements; then a name that is driven twice; then a used name that nothing drives. `NoMemory` where
-/// memory is wanting. `Loop` never comes from here.
+/// Reads a netlist: statements in the `.bench` format of Brglez and Fujiwara (1985), with comments from `#` to the end
+/// of a line. Returns `At` exactly if the text breaks a rule, with the first one that it breaks and the byte where: a
+/// text of more than `NETLIST_LIMIT` bytes; then, from left to right, the rules of bytes, words and statements; then a
+/// name that is driven twice; then a used name that nothing drives. Returns `NoMemory` if memory is missing, and never
+/// `Loop`.
 pub fn read(alloc: Global, bytes: &[u8]) -> Result<Statements, NetFault>
     ensures ok { IfOk result (IsNetlist bytes.now) }
     ensures refused { IfErr result (IsTextFault bytes.now) }
@@ -34,7 +33,7 @@ pub fn read(alloc: Global, bytes: &[u8]) -> Result<Statements, NetFault>
     })
 }
 
-// Refuses the statements of a text in which a name is driven twice, or used and not driven.
+// Refuses the statements of a text if a name is driven twice, or used and not driven.
 fn judge(alloc: Global, parsed: &Parsed) -> Result<(), NetFault>
     requires { AreNumbered (length parsed.now.names) parsed.now.statements }
     ensures ok { OnOk result (driver_fault parsed.now.statements ≡ None) }
@@ -46,7 +45,7 @@ fn judge(alloc: Global, parsed: &Parsed) -> Result<(), NetFault>
     }
 }
 
-// The statements of a text that isn't too long.
+// Returns the statements of a text, which is refused if it is too long.
 fn parse_short(alloc: Global, bytes: &[u8]) -> Result<Parsed, NetFault>
     ensures ok { IfOk result (IsParsed bytes.now) }
     ensures refused { IfErr result (IsTextFault bytes.now) }
@@ -57,7 +56,7 @@ fn parse_short(alloc: Global, bytes: &[u8]) -> Result<Parsed, NetFault>
     parse(alloc, bytes)
 }
 
-// The place of the first byte behind the limit.
+// Returns the place of the first byte after the limit.
 fn limit_place(bytes: &[u8]) -> Place
     requires { NETLIST_LIMIT < length bytes.now }
     ensures { result ≡ place_of bytes.now NETLIST_LIMIT }
@@ -68,7 +67,7 @@ fn limit_place(bytes: &[u8]) -> Place
     }
 }
 
-// How many bytes are LF.
+// Returns the number of bytes that are LF.
 fn feeds(bytes: &[u8]) -> usize
     ensures { result ≡ count_by (λ b. b == 10) bytes.now }
 {

@@ -7,7 +7,7 @@ ghost use Rattle.bench_reader.specs.Bytes.{kind_at, length_at, is_skipped, insid
 
 use crate::fault::Place;
 
-/// What stands at a place where a token is read.
+/// What is at a place at which a token is read.
 #[derive(Clone, Copy)]
 pub(crate) enum LexemeKind {
     OpenBracket,
@@ -19,7 +19,7 @@ pub(crate) enum LexemeKind {
     End,
 }
 
-/// A token, or the end of the text: its first byte, and the byte behind it.
+/// A token, or the end of the text: its place, and the byte after its last one.
 #[derive(Clone, Copy)]
 pub(crate) struct Lexeme {
     pub(crate) kind: LexemeKind,
@@ -27,7 +27,7 @@ pub(crate) struct Lexeme {
     pub(crate) end: u32,
 }
 
-/// The place behind a lexeme.
+/// Returns the place after a lexeme.
 pub(crate) fn behind(lexeme: Lexeme) -> Place
     ensures byte { result.byte ≡ lexeme.end }
     ensures line { result.line ≡ lexeme.place.line }
@@ -38,7 +38,7 @@ pub(crate) fn behind(lexeme: Lexeme) -> Place
     }
 }
 
-/// The bytes of a lexeme.
+/// Returns the bytes of a lexeme.
 pub(crate) fn text_of(bytes: &[u8], lexeme: Lexeme) -> &[u8]
     requires { IsLexeme bytes.now lexeme }
     ensures { result.now ≡ text_in bytes.now lexeme }
@@ -61,7 +61,7 @@ fn is_name_byte(byte: u8) -> bool
         && !(byte == b'(' || byte == b')' || byte == b',' || byte == b'=' || byte == b'#')
 }
 
-// How many bytes of a name a text begins with.
+// Returns how many bytes of a name a text begins with.
 fn name_len(text: &[u8]) -> usize
     ensures { result ≡ prefix_len is_name_byte text.now }
 {
@@ -73,7 +73,7 @@ fn name_len(text: &[u8]) -> usize
     text.len()
 }
 
-// What a byte that isn't skipped begins.
+// Returns the kind of lexeme that a byte begins, if the byte isn't skipped.
 fn kind_at(byte: u8) -> LexemeKind
     ensures { result ≡ kind_at byte }
 {
@@ -87,7 +87,7 @@ fn kind_at(byte: u8) -> LexemeKind
     }
 }
 
-// How long what a text begins with is, by its kind.
+// Returns the length of the lexeme of this kind with which a text begins.
 fn length_at(kind: LexemeKind, text: &[u8]) -> usize
     ensures { result ≡ length_at kind text.now }
 {
@@ -97,7 +97,8 @@ fn length_at(kind: LexemeKind, text: &[u8]) -> usize
     }
 }
 
-// The place of the first byte from this place on that is neither blank nor in a comment.
+// Returns the place of the first byte, starting at `place`, that is neither blank nor in a comment, or the end of the
+// text.
 fn skip_blanks(bytes: &[u8], place: Place) -> Place
     requires room { length bytes.now < 2 ^ 31 }
     requires within { place.byte ≤ length bytes.now }
@@ -117,21 +118,20 @@ fn skip_blanks(bytes: &[u8], place: Place) -> Place
     place
 }
 
-// Whether a byte is skipped, inside a comment or not.
+// Returns whether a byte is skipped; `inside` says whether it is inside a comment.
 fn is_skipped(inside: bool, byte: u8) -> bool
     ensures { result ≡ (inside || is_skipped byte) }
 {
     inside || is_blank(byte) || byte == b'#'
 }
 
-// Whether the bytes behind a skipped one are inside a comment.
+// Returns whether the bytes after a skipped one are inside a comment.
 fn inside_behind(inside: bool, byte: u8) -> bool
     ensures { result ≡ inside_behind inside byte }
 {
     byte != b'\n' && (inside || byte == b'#')
 }
 
-// The place of the next byte.
 fn place_behind(place: Place, byte: u8) -> Place
     requires byte { place.byte < 2 ^ 31 }
     requires line { place.line ≤ 2 ^ 31 }
@@ -148,7 +148,7 @@ fn place_behind(place: Place, byte: u8) -> Place
     }
 }
 
-/// The next lexeme from this place on.
+/// Returns the next lexeme, starting at `place`.
 pub(crate) fn next_lexeme(bytes: &[u8], place: Place) -> Lexeme
     requires room { length bytes.now < 2 ^ 31 }
     requires within { place.byte ≤ length bytes.now }

@@ -1,4 +1,4 @@
-//! One statement, by the places of its names.
+//! One statement, as the places of its names.
 ghost use Rattle.std.specs.Prelude.{◌≡◌, ◌≢◌, ◌<◌, ◌^◌, ◌∷◌, ◌++◌, length, IfOk, IfErr};
 ghost use Rattle.bench_reader.specs.Scanning.{tokens_at, tokens_from, token_in, IsLexeme, IsNext};
 ghost use Rattle.bench_reader.specs.Shapes.{stop_kind, head_tokens, IsGateHead, ArePins, IsStatement};
@@ -9,14 +9,14 @@ use crate::scanner::{Lexeme, LexemeKind, behind, next_lexeme, text_of};
 use crate::word::{Driver, Port, driver_of, port_of, takes};
 use std::alloc::Global;
 
-/// An input or an observed name; a gate: the name that it drives, what its word says, the word and its pins.
+/// An input or an observed name; or a gate: the name that it drives, the meaning of its word, the word and its pins.
 #[derive(Drop)]
 pub(crate) enum Shape {
     Port(Port, Lexeme),
     Gate(Lexeme, Driver, Lexeme, Vec<Lexeme>),
 }
 
-/// The tokens with which a gate begins, up to the opening bracket, and what its word says.
+/// The tokens with which a gate begins, up to the opening bracket, and the meaning of its word.
 #[derive(Clone, Copy)]
 pub(crate) struct GateHead {
     name: Lexeme,
@@ -26,7 +26,7 @@ pub(crate) struct GateHead {
     bracket: Lexeme,
 }
 
-// The fault where a statement can't go on with this lexeme.
+// Returns the fault of a statement that can't go on with this lexeme.
 fn stop(lexeme: Lexeme) -> NetFault
     ensures { result ≡ NetFault.At (stop_kind lexeme.kind) lexeme.place }
 {
@@ -36,7 +36,7 @@ fn stop(lexeme: Lexeme) -> NetFault
     }
 }
 
-/// The statement that begins with this lexeme, and the place behind it.
+/// Returns the statement that begins with this lexeme, and the place after it.
 pub(crate) fn statement_at(
     alloc: Global,
     bytes: &[u8],
@@ -60,7 +60,7 @@ pub(crate) fn statement_at(
     }
 }
 
-// An input or an observed name: the statement's word and the opening bracket.
+// Returns the statement of an input or an observed name, given its word and the opening bracket.
 fn observed(bytes: &[u8], word: Lexeme, bracket: Lexeme) -> Result<(Shape, Place), NetFault>
     requires room { length bytes.now < 2 ^ 31 }
     requires word { IsLexeme bytes.now word }
@@ -87,7 +87,7 @@ fn observed(bytes: &[u8], word: Lexeme, bracket: Lexeme) -> Result<(Shape, Place
     Ok((Shape::Port(port, name), behind(close)))
 }
 
-// A gate: the name that it drives and the equals sign.
+// Returns a gate, given the name that it drives and the equals sign.
 fn gate(
     alloc: Global,
     bytes: &[u8],
@@ -110,7 +110,7 @@ fn gate(
     Ok((Shape::Gate(head.name, head.driver, head.word, pins), place))
 }
 
-// The begin of a gate, up to the opening bracket.
+// Returns the beginning of a gate, up to the opening bracket.
 fn gate_head(bytes: &[u8], name: Lexeme, equals: Lexeme) -> Result<GateHead, NetFault>
     requires room { length bytes.now < 2 ^ 31 }
     requires name { IsLexeme bytes.now name }
@@ -143,7 +143,7 @@ fn gate_head(bytes: &[u8], name: Lexeme, equals: Lexeme) -> Result<GateHead, Net
     })
 }
 
-// The pins of a gate, and the place behind the closing bracket. A gate that takes no pins may have none.
+// Returns the pins of a gate, and the place after the closing bracket. A gate that takes no pins may have none.
 fn pins(alloc: Global, bytes: &[u8], head: GateHead) -> Result<(Vec<Lexeme>, Place), NetFault>
     requires room { length bytes.now < 2 ^ 31 }
     requires head { IsGateHead bytes.now head }
@@ -158,7 +158,7 @@ fn pins(alloc: Global, bytes: &[u8], head: GateHead) -> Result<(Vec<Lexeme>, Pla
     }
 }
 
-// The pins of a gate from its first one on, and the place behind the closing bracket.
+// Returns the pins of a gate starting at its first one, and the place after the closing bracket.
 fn some_pins(
     alloc: Global,
     bytes: &[u8],

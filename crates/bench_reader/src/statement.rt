@@ -8,7 +8,7 @@ use smallvec::SmallVec;
 use std::alloc::{AllocError, Global};
 use std::marker::Model;
 
-/// A name by its number, and where it stands.
+/// A name, as its number, and the place where it is written.
 #[derive(Clone, Copy, Default)]
 pub struct Word {
     pub name: u32,
@@ -51,14 +51,15 @@ impl Words {
     }
 }
 
-// Written out for the reason that the drop of pins is.
+// As for `Statements`.
 impl Drop for Words {
     fn drop(self) {
         let Words { words: _ } = self;
     }
 }
 
-/// An input; an observed name; a gate with the name that it drives and its pins; a flip-flop with its output and its data pin.
+/// An input; an observed name; a gate, with the name that it drives and its pins; or a flip-flop, with its output and
+/// its data pin.
 #[derive(Drop)]
 pub enum Statement {
     Input(Word),
@@ -73,8 +74,8 @@ pub struct Statements {
     pub(crate) names: Vec<Vec<u8>>,
 }
 
-// Written out, it is one step in the proof of each function that lets statements go, where a derived one is a step for
-// each vector in them.
+// Written by hand, so that it is one step in the proof of each function that drops statements; a derived one is a step
+// for each vector in them.
 impl Drop for Statements {
     fn drop(self) {
         let Statements {
@@ -104,7 +105,7 @@ impl Statements {
         self.statements.as_slice()
     }
 
-    /// The name of a number.
+    /// Returns the name with a number.
     pub fn name(&self, number: u32) -> &[u8]
         requires { number < length self.now.names }
         ensures { result.now ≡ slice_index_or self.now.names number [] }
@@ -112,7 +113,7 @@ impl Statements {
         self.names[number as usize].as_slice()
     }
 
-    /// How many names there are.
+    /// Returns how many names there are.
     pub fn names_len(&self) -> u32
         ensures { result ≡ length self.now.names }
     {

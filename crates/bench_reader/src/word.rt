@@ -6,21 +6,21 @@ ghost use Rattle.bench_reader.specs.Shapes.{driver_in, port_phrase};
 
 use net_model::Kind;
 
-/// What a gate word says.
+/// What a gate word means.
 #[derive(Clone, Copy)]
 pub(crate) enum Driver {
     Gate(Kind),
     FlipFlop,
 }
 
-// Whether two words are the same in any ASCII case.
+// Returns whether two words are the same in any ASCII case.
 fn same_word(word: &[u8], other: &[u8]) -> bool
     ensures { result ≡ str_eq_ignore_ascii_case word.now other.now }
 {
     word.eq_ignore_ascii_case(other)
 }
 
-/// What a word in the place of a gate says.
+/// Returns what a word in the place of a gate means, if it is a gate word.
 pub(crate) fn driver_of(word: &[u8]) -> Option<Driver>
     ensures { option_map driver_in result ≡ driver_of word.now }
 {
@@ -51,7 +51,7 @@ pub(crate) fn driver_of(word: &[u8]) -> Option<Driver>
     found
 }
 
-// What a word says if it is this keyword, and else what was found.
+// Returns `driver` if the word is this keyword, and else what was found before.
 fn says(word: &[u8], keyword: &[u8], driver: Driver, found: Option<Driver>) -> Option<Driver>
     ensures { option_map driver_in result ≡ (if is_word keyword.now word.now then Some (driver_in driver) else option_map driver_in found) }
 {
@@ -62,7 +62,7 @@ fn says(word: &[u8], keyword: &[u8], driver: Driver, found: Option<Driver>) -> O
     }
 }
 
-/// Whether a gate may have so many pins.
+/// Returns whether a gate can have this number of pins.
 pub(crate) fn takes(driver: Driver, pins: usize) -> bool
     ensures { result ≡ takes (driver_in driver) pins }
 {
@@ -76,14 +76,14 @@ pub(crate) fn takes(driver: Driver, pins: usize) -> bool
     }
 }
 
-/// What the word before a bracket at the start of a statement says.
+/// What the word before a bracket at the start of a statement means.
 #[derive(Clone, Copy)]
 pub(crate) enum Port {
     Input,
     Output,
 }
 
-/// Whether a word is `INPUT` or `OUTPUT`.
+/// Returns which of `INPUT` and `OUTPUT` a word is, if it is one of them.
 pub(crate) fn port_of(word: &[u8]) -> Option<Port>
     ensures { (n : Named) → option_map (λ port. port_phrase port n) result ≡ observed_phrase word.now n }
 {

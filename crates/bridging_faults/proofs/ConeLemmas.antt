@@ -21,9 +21,9 @@ use Rattle.net_model.proofs.SetSoFar.{fits_from}
 use Rattle.fault_list.specs.Scope.{AreMarksOfTest, MarksLines}
 use Rattle.fault_list.proofs.Table.{no_pins}
 
--- ---- onward along the order
+-- ---- forward along the order
 
--- The sources and the first so many gates have their marks.
+-- The sources and the first `i` gates have their marks.
 pub record FanOutSoFar (c : Circuit) (from : ℕ) (order : List ℕ) (i : ℕ) (marks : List Bool) : Type 0 where
   pub whole : length marks ≡ line_count c
   pub sources : (line : ℕ) → line < c.sources → bit_at marks line ≡ leads_to c from line
@@ -31,7 +31,8 @@ pub record FanOutSoFar (c : Circuit) (from : ℕ) (order : List ℕ) (i : ℕ) (
 
 -- ---- back along the order
 
--- The marks are right as far as they go, and closed at the gates from a place of the order on.
+-- Each mark is right, the line itself is marked, and each marked gate starting at place `i` of the order marks what it
+-- reads.
 pub record FanInFrom (c : Circuit) (to : ℕ) (order : List ℕ) (i : ℕ) (marks : List Bool) : Type 0 where
   pub whole : length marks ≡ line_count c
   pub sound : (line : ℕ) → bit_at marks line ≡ true → leads_to c line to ≡ true

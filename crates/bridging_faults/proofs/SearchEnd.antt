@@ -74,7 +74,7 @@ module _ (c : Circuit) (m : LineRows) (within : ℕ) (chosen : List ℕ) (are : 
       ] in
       (met.line, below, record { bridge = is.bridge; at = met.meets })
 
--- ---- what the rows tell is what the log tells
+-- ---- what the rows say is what the log says
 
 zip_count : (f : Line → Bool → Bool) (p g : ℕ → Bool) (n : ℕ) (rest : List Line) → ((k : ℕ) → k < length rest → p (n + k) ≡ f (logged_line rest k) (g (n + k)))
     → count_by (λ x. f x.0 x.1) (zip rest (map g (range_with_len n (length rest)))) ≡ count_by p (range_with_len n (length rest))

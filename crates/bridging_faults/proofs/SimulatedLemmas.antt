@@ -1,4 +1,4 @@
--- What is known of the lines of a circuit, noted by a block of a log's lines after another.
+-- What is known of the lines of a circuit, noted for one block of a log's lines after another.
 use Rattle.std.proofs.Common.{◌≡◌, ◌≢◌, ◌∙◌, ℕ, ◌+◌, ◌-◌, ◌*◌, ◌/◌, ◌%◌, ◌<◌, ◌≤◌, List, [], length, get_or, refl, sym, ap, subst, arith, inl, inr}
 use Rattle.std.specs.Prelude.{Bool, not, ◌==◌, nat_lt, slice_range}
 use Rattle.std.proofs.lemmas.Bool.{cases_lt, cases_eq}
@@ -25,7 +25,7 @@ use Rattle.ranked_diag.specs.PartialLog.{Line}
 use Rattle.suspect_scores.specs.declared.logged.Logged.{Logged}
 use Rattle.suspect_scores.specs.Marks.{logged_line, IsLogged}
 use Rattle.suspect_scores.specs.Scored.{row_bits}
-use Rattle.suspect_scores.proofs.BenchLemmas.{many, lane_fits}
+use Rattle.suspect_scores.proofs.PatternSimLemmas.{many, lane_fits}
 use Rattle.suspect_scores.proofs.BlockScores.{zero_test}
 use Rattle.suspect_scores.proofs.FailedLemmas.{bits_wrong}
 use Rattle.bridging_faults.specs.declared.line_rows.LineRows.{LineRows}
@@ -36,7 +36,8 @@ use Rattle.bridging_faults.proofs.SearchEnd.{first_free}
 
 -- ---- words of a row
 
--- The row has these bits of so many lines of the log from the first one on, as far as they are those of the first words, so many.
+-- The row has these bits at `count` lines of the log starting at `first`, as far as they are in the first `words`
+-- words.
 pub record AreWordsNoted (bits : ℕ → Bool) (first count words : ℕ) (old new : List (List Bool)) (row : ℕ) : Type 0 where
   pub shape : HaveSameShape old new
   pub here : (lane : ℕ) → lane < count → lane < words * 64 → row_bit new row (first + lane) ≡ bits lane

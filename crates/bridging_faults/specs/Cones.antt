@@ -5,12 +5,12 @@ use Rattle.net_model.specs.Scope.{leads_to}
 use Rattle.fault_list.specs.Scope.{AreMarksOfTest}
 use Rattle.bridging_faults.specs.declared.cones.LineCones.{LineCones}
 
--- There is a mark for each line of the circuit in both.
+-- Both cones have a mark for each line of the circuit.
 pub record HaveLineMarks (a : LineCones) : Type 0 where
   pub fan_out : length a.fan_out.items ≡ line_count a.circuit.now
   pub fan_in : length a.fan_in.items ≡ line_count a.circuit.now
 
--- One marks the lines that the line leads to, and the other those that lead to it.
+-- `fan_out` marks exactly the lines that the line leads to, and `fan_in` exactly those that lead to it.
 pub record AreConesOf (line : ℕ) (a : LineCones) : Type 0 where
   pub fan_out : AreMarksOfTest (leads_to a.circuit.now line) (line_count a.circuit.now) a.fan_out.items
   pub fan_in : AreMarksOfTest (λ from. leads_to a.circuit.now from line) (line_count a.circuit.now) a.fan_in.items

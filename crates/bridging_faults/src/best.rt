@@ -1,4 +1,4 @@
-//! The best of the bridges so far.
+//! `Best`: the best of the bridges that have been found so far.
 
 ghost use Rattle.std.specs.Prelude.{◌≡◌, ◌+◌, ◌<◌, ◌≤◌, ◌^◌, [], length, take, Contains, if◌then◌else◌, OnOk};
 ghost use Rattle.bridging_faults.specs.Found.{bridge_cmp, kind_rank};
@@ -9,7 +9,8 @@ use crate::scored::ScoredBridge;
 use std::alloc::{AllocError, Global};
 use std::cmp::Ordering;
 
-/// The best bridges so far, so many at the most, with how many there are, and how many of these are exact.
+/// The best bridges found so far, at most `most` of them, with the number of all found and of the exact ones among
+/// these.
 #[derive(Drop)]
 pub(crate) struct Best {
     pub(crate) listed: Vec<ScoredBridge>,
@@ -19,7 +20,7 @@ pub(crate) struct Best {
 }
 
 impl Best {
-    /// No bridges.
+    /// Returns an empty list that keeps at most `most` bridges.
     pub(crate) fn none(alloc: Global, most: usize) -> Best
         ensures listed { result.listed.items ≡ [] }
         ensures most { result.most ≡ most }
@@ -34,7 +35,7 @@ impl Best {
         }
     }
 
-    /// One bridge more, which isn't among them.
+    /// Counts a bridge that isn't in the list, and puts it at its place if it is among the first `most`.
     pub(crate) fn add(&mut self, bridge: ScoredBridge, is_exact: bool) -> Result<(), AllocError>
         requires new { ¬ Contains self.old.listed.items bridge }
         requires few { self.old.found < 2 ^ 54 }
@@ -53,7 +54,7 @@ impl Best {
     }
 }
 
-// The place of a bridge among some in order.
+// Returns the place of `bridge` in the order of `listed`.
 fn place_of(listed: &Vec<ScoredBridge>, bridge: &ScoredBridge) -> usize
     ensures { IsPlaceOf bridge.now listed.now.items result }
 {
@@ -65,7 +66,7 @@ fn place_of(listed: &Vec<ScoredBridge>, bridge: &ScoredBridge) -> usize
     listed.len()
 }
 
-// Which of two bridges stands first.
+// Compares two bridges: the one that comes first is less.
 fn order(a: &ScoredBridge, b: &ScoredBridge) -> Ordering
     ensures { result ≡ bridge_cmp a.now b.now }
 {
@@ -77,7 +78,7 @@ fn order(a: &ScoredBridge, b: &ScoredBridge) -> Ordering
     explained.then(wrong.then(kind.then(first.then(second))))
 }
 
-// The place of a kind in the order.
+// Returns the rank of a kind in the order.
 fn kind_rank(kind: BridgeKind) -> u8
     ensures { result ≡ kind_rank kind }
 {

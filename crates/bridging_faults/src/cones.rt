@@ -1,4 +1,4 @@
-//! The lines that a line leads to, and those that lead to it.
+//! `LineCones`: the lines that a line leads to, and those that lead to it, in space that is reused from line to line.
 
 ghost use Rattle.std.specs.Prelude.{◌≡◌, ◌<◌, ◌⊎◌, ◌==◌, ℕ, All, IfOk, length};
 ghost use Rattle.std.specs.List.{list_any};
@@ -11,7 +11,8 @@ ghost use Rattle.bridging_faults.specs.Cones.{HaveLineMarks, AreConesOf};
 use net_model::Circuit;
 use std::alloc::{AllocError, Global};
 
-/// The cones of a line of a circuit, in space that is kept from line to line. The line is in both.
+/// The fan-out cone and the fan-in cone of a line of a circuit, in space that is reused from line to line. The line is
+/// in both.
 #[derive(Drop)]
 pub(crate) struct LineCones<'a> {
     pub(crate) circuit: &'a Circuit,
@@ -22,7 +23,7 @@ pub(crate) struct LineCones<'a> {
 }
 
 impl<'a> LineCones<'a> {
-    /// Space for the cones of a line.
+    /// Returns space for the cones of a line.
     pub(crate) fn new(alloc: Global, circuit: &'a Circuit) -> Result<LineCones<'a>, AllocError>
         ensures circuit { IfOk result (λ cones. cones.circuit.now ≡ circuit.now) }
         ensures room { IfOk result HaveLineMarks }
@@ -35,7 +36,7 @@ impl<'a> LineCones<'a> {
         })
     }
 
-    /// Puts the cones of a line in the place of those before. It takes no memory.
+    /// Replaces the cones with those of `line`. Takes no memory.
     pub(crate) fn show(&mut self, line: u32)
         requires line { line < line_count self.old.circuit.now }
         requires room { HaveLineMarks self.old }
@@ -46,7 +47,7 @@ impl<'a> LineCones<'a> {
         mark_fan_in(self.circuit, line, &mut self.fan_in);
     }
 
-    /// Whether a line is another, or leads to it. One of the two is the line of the cones.
+    /// Returns whether `from` is `to` or leads to it. One of the two is `line`, whose cones are shown.
     pub(crate) fn leads(&self, line: u32, from: u32, to: u32) -> bool
         requires cones { AreConesOf line self.now }
         requires one { (line ≡ from) ⊎ (line ≡ to) }
@@ -62,7 +63,7 @@ impl<'a> LineCones<'a> {
     }
 }
 
-// Marks the lines that a line leads to, from the sources on, and no others.
+// Marks exactly the lines that `from` leads to, by going through the gates in order.
 fn mark_fan_out(circuit: &Circuit, from: u32, marks: &mut Vec<bool>)
     requires { length marks.old.items ≡ line_count circuit.now }
     ensures { AreMarksOfTest (leads_to circuit.now from) (line_count circuit.now) marks.new.items }
@@ -75,7 +76,7 @@ fn mark_fan_out(circuit: &Circuit, from: u32, marks: &mut Vec<bool>)
     }
 }
 
-// Marks the lines that lead to a line, from the last gates back, and no others.
+// Marks exactly the lines that lead to `to`, by going through the gates in reverse order.
 fn mark_fan_in(circuit: &Circuit, to: u32, marks: &mut Vec<bool>)
     requires to { to < line_count circuit.now }
     requires whole { length marks.old.items ≡ line_count circuit.now }
@@ -91,7 +92,7 @@ fn mark_fan_in(circuit: &Circuit, to: u32, marks: &mut Vec<bool>)
     }
 }
 
-// Marks a line, and no other.
+// Marks exactly `line`.
 fn mark_alone(line: u32, marks: &mut Vec<bool>)
     ensures { AreMarksOfTest (λ other. line == other) (length marks.old.items) marks.new.items }
 {
@@ -100,7 +101,7 @@ fn mark_alone(line: u32, marks: &mut Vec<bool>)
     }
 }
 
-// Marks these lines too.
+// Marks `lines` too, and keeps the other marks.
 fn mark_lines(marks: &mut Vec<bool>, lines: &[u32])
     requires { All (λ line. line < length marks.old.items) lines.now }
     ensures { MarksLines lines.now marks.old.items marks.new.items }
@@ -110,7 +111,6 @@ fn mark_lines(marks: &mut Vec<bool>, lines: &[u32])
     }
 }
 
-// Whether one of these lines is marked.
 fn is_any_marked(marks: &[bool], lines: &[u32]) -> bool
     requires { All (λ line. line < length marks.now) lines.now }
     ensures { result ≡ list_any (bit_at marks.now) lines.now }

@@ -1,4 +1,5 @@
-//! Which two lines of a chip are shorted, though no single fault may explain what it answered.
+//! Bridging faults: which two lines of a chip may be shorted, even if no single stuck-at fault explains what it
+//! answered.
 #![tactic(auto)]
 
 mod best;

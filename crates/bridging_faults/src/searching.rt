@@ -1,4 +1,5 @@
-//! The search for bridges by the rows of the lines.
+//! The search for bridges by the rows of the lines. It tries bridges only at lines that, when turned, let the circuit
+//! fit a chosen line of the log.
 
 ghost use Rattle.std.specs.Prelude.{◌≡◌, ◌≢◌, ◌↔◌, ◌⊎◌, ◌+◌, ◌<◌, ◌≤◌, ◌^◌, ℕ, false, length, All, Contains, Some, IsTrue, OnOk, IfOk};
 ghost use Rattle.net_model.specs.Circuit.{line_count};
@@ -19,11 +20,11 @@ use crate::line_rows::{LineRows, is_explained_at, score, victim_at};
 use net_model::Circuit;
 use std::alloc::{AllocError, Global};
 
-/// What is known of the lines, and what is sought.
+/// What is known of the lines, and which bridges are sought.
 #[derive(Drop)]
 pub(crate) struct Sought {
     pub(crate) rows: LineRows,
-    /// Failing lines of the log: a bridge that is found explains one of them.
+    /// Failing lines of the log; each bridge that is found explains one of them.
     pub(crate) chosen: Vec<u32>,
     /// How many failing lines may be left unexplained.
     pub(crate) within: u32,
@@ -31,7 +32,7 @@ pub(crate) struct Sought {
     pub(crate) failing: u32,
 }
 
-/// The best bridges of a circuit, so many at the most, of those that are found.
+/// Returns the best of the bridges that are found in a circuit, at most `most` of them, with the counts of all.
 pub(crate) fn search(
     alloc: Global,
     circuit: &Circuit,
@@ -53,7 +54,7 @@ pub(crate) fn search(
     Ok(best)
 }
 
-// Tries the bridges that are met at a line.
+// Tries the bridges that are met at line `x`.
 fn meet_line(best: &mut Best, cones: &LineCones, sought: &Sought, x: u32) -> Result<(), AllocError>
     requires ready { IsReadyAt cones.now sought.now x }
     requires searched { IsSearched cones.now.circuit.now sought.now (IsMetBelow cones.now.circuit.now sought.now.rows sought.now.chosen.items x) best.old }
@@ -68,7 +69,7 @@ fn meet_line(best: &mut Best, cones: &LineCones, sought: &Sought, x: u32) -> Res
     Ok(())
 }
 
-// Whether the circuit fits with a line turned at some chosen line of the log: else no bridge is met at it.
+// Returns whether the circuit with line `x` turned fits some chosen line of the log. If not, no bridge is met at `x`.
 fn may_meet(sought: &Sought, x: u32) -> bool
     requires x { x < length sought.now.rows.turned }
     requires wide { All (λ row. length row ≡ length sought.now.rows.free) sought.now.rows.turned }
@@ -83,7 +84,7 @@ fn may_meet(sought: &Sought, x: u32) -> bool
     false
 }
 
-// Tries the bridges of two lines, of which the first may be the victim.
+// Tries the bridges of lines `x` and `y` in which `x` may be the victim.
 fn meet_pair(
     best: &mut Best,
     cones: &LineCones,
@@ -103,7 +104,7 @@ fn meet_pair(
     meet_kind(best, cones, sought, BridgeKind::Dominant, x, y)
 }
 
-// Tries the bridge of one kind.
+// Tries the one of this kind.
 fn meet_kind(
     best: &mut Best,
     cones: &LineCones,
@@ -122,7 +123,7 @@ fn meet_kind(
     meet(best, cones, sought, crossing(kind, x, y), x)
 }
 
-// Tries a bridge at a line: where it is met there and found, it is put among the best.
+// Tries `bridge` at line `x`: if it is met there and found, it is put among the best.
 fn meet(
     best: &mut Best,
     cones: &LineCones,
@@ -152,7 +153,7 @@ fn meet(
     best.add(scored, is_exact)
 }
 
-// Whether a bridge is met at a line.
+// Returns whether `bridge` is met at line `x`.
 fn meets(sought: &Sought, bridge: Bridge, x: u32) -> bool
     requires shape { HaveShape sought.now.rows }
     requires chosen { All (λ k. k < length sought.now.rows.free) sought.now.chosen.items }
@@ -168,7 +169,8 @@ fn meets(sought: &Sought, bridge: Bridge, x: u32) -> bool
     false
 }
 
-// Whether two lines, of which one is the line of the cones, are a bridge without a loop.
+// Returns whether `bridge` has no loop and, if it is wired, its first line is the lower one. One of its lines is `x`,
+// whose cones are shown.
 fn is_apart(cones: &LineCones, bridge: Bridge, x: u32) -> bool
     requires cones { AreConesOf x cones.now }
     requires one { (x ≡ bridge.first) ⊎ (x ≡ bridge.second) }
@@ -185,7 +187,7 @@ fn is_apart(cones: &LineCones, bridge: Bridge, x: u32) -> bool
     (bridge.first < bridge.second) && !cones.leads(x, bridge.first, bridge.second)
 }
 
-// Whether the two lines of such a bridge are alike.
+// Returns whether both lines of such a bridge have the same role.
 fn is_wired(kind: BridgeKind) -> bool
     ensures { result ≡ is_wired kind }
 {
@@ -196,7 +198,7 @@ fn is_wired(kind: BridgeKind) -> bool
     }
 }
 
-// The bridge of two lines where the first may be its victim.
+// Returns the bridge of lines `x` and `y` in which `x` may be the victim.
 fn crossing(kind: BridgeKind, x: u32, y: u32) -> Bridge
     ensures { result ≡ crossing kind x y }
 {

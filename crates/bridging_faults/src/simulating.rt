@@ -1,4 +1,4 @@
-//! The lines of a circuit, each turned at the patterns of a log, by a block of patterns after another.
+//! Simulates a circuit with each of its lines turned at the patterns of a log, one block of patterns after another.
 
 ghost use Rattle.std.specs.Prelude.{◌≡◌, ℕ, ◌+◌, ◌%◌, ◌<◌, ◌≤◌, not, nat_lt, List, length, OnOk, IfOk};
 ghost use Rattle.net_model.specs.Circuit.{line_count};
@@ -17,10 +17,10 @@ use fault_sim::FaultSim;
 use net_model::{AnswerRows, Bits};
 use std::alloc::{AllocError, Global};
 use suspect_scores::{LogColumns, Logged, fitting_word, is_failing};
-use table_dicts::{Bench, Setting};
+use table_dicts::{PatternSim, Setting};
 use word_sim::{LANES, Lanes};
 
-/// Which lines of a log aren't failing.
+/// Returns for each line of a log whether it isn't failing.
 pub(crate) fn passing_lines(alloc: Global, logged: &Logged) -> Result<Bits, AllocError>
     ensures count { IfOk result (λ bits. length bits ≡ length logged.now.marks.wrong) }
     ensures passes { IfOk result (λ bits. (k : ℕ) → k < length logged.now.marks.wrong → bit_at bits k ≡ not (nat_lt 0 (row_bits (row_at logged.now.marks.wrong k)))) }
@@ -33,7 +33,8 @@ pub(crate) fn passing_lines(alloc: Global, logged: &Logged) -> Result<Bits, Allo
     Ok(passes)
 }
 
-/// Notes of each line of the circuit its fault-free values, and at which lines of the log the circuit fits with it turned.
+/// Notes the fault-free values of each line of the circuit in `good`, and in `turned` which lines of the log the
+/// circuit fits with that line turned.
 pub(crate) fn simulate(
     alloc: Global,
     setting: &Setting,
@@ -48,70 +49,77 @@ pub(crate) fn simulate(
     ensures turned { OnOk result (AreKnown (IsTurnedBit setting.now logged.now) (line_count setting.now.subject.now) (length logged.now.patterns.items) (length logged.now.patterns.items) turned.new) }
 {
     let patterns = logged.patterns.as_slice();
-    let mut bench = Bench::new(alloc, setting.subject)?;
+    let mut pattern_sim = PatternSim::new(alloc, setting.subject)?;
     let mut first = 0;
     while first < patterns.len() {
-        let end = bench.run(patterns, first);
-        note_lines(good, turned, &mut bench, &logged.columns, first as u32);
+        let end = pattern_sim.run(patterns, first);
+        note_lines(
+            good,
+            turned,
+            &mut pattern_sim,
+            &logged.columns,
+            first as u32,
+        );
         first = end;
     }
     Ok(())
 }
 
-// Notes what is known of all lines at the patterns that were run, which are those of the log's lines from the first one on.
+// Notes what is known of all lines at the patterns that were run. These are the patterns of the log's lines starting at
+// `first`.
 fn note_lines(
     good: &mut AnswerRows,
     turned: &mut AnswerRows,
-    bench: &mut Bench,
+    pattern_sim: &mut PatternSim,
     columns: &LogColumns,
     first: u32,
 )
-    requires run { HasRunPatterns bench.old }
-    requires columns { AreColumnRows (length bench.old.good.circuit.positions) columns.now }
+    requires run { HasRunPatterns pattern_sim.old }
+    requires columns { AreColumnRows (length pattern_sim.old.good.circuit.positions) columns.now }
     requires aligned { first % 64 ≡ 0 }
-    requires good { HaveRoom (line_count bench.old.good.circuit) first (length bench.old.block.vectors) good.old }
-    requires turned { HaveRoom (line_count bench.old.good.circuit) first (length bench.old.block.vectors) turned.old }
-    ensures bench { bench.new ≡ record bench.old { sim = bench.new.sim } }
-    ensures run { HasRunPatterns bench.new }
-    ensures good { AreLinesNoted (IsFreeValue bench.old.good.circuit bench.old.block.vectors) first (length bench.old.block.vectors) good.old good.new (line_count bench.old.good.circuit) }
-    ensures turned { AreLinesNoted (IsTurnedLane bench.old.good.circuit bench.old.block.vectors columns.now first) first (length bench.old.block.vectors) turned.old turned.new (line_count bench.old.good.circuit) }
+    requires good { HaveRoom (line_count pattern_sim.old.good.circuit) first (length pattern_sim.old.block.vectors) good.old }
+    requires turned { HaveRoom (line_count pattern_sim.old.good.circuit) first (length pattern_sim.old.block.vectors) turned.old }
+    ensures pattern_sim { pattern_sim.new ≡ record pattern_sim.old { sim = pattern_sim.new.sim } }
+    ensures run { HasRunPatterns pattern_sim.new }
+    ensures good { AreLinesNoted (IsFreeValue pattern_sim.old.good.circuit pattern_sim.old.block.vectors) first (length pattern_sim.old.block.vectors) good.old good.new (line_count pattern_sim.old.good.circuit) }
+    ensures turned { AreLinesNoted (IsTurnedLane pattern_sim.old.good.circuit pattern_sim.old.block.vectors columns.now first) first (length pattern_sim.old.block.vectors) turned.old turned.new (line_count pattern_sim.old.good.circuit) }
 {
-    let lines = bench.good.circuit().lines();
+    let lines = pattern_sim.good.circuit().lines();
     for line in 0..lines {
-        note_line(good, turned, bench, columns, first, line);
+        note_line(good, turned, pattern_sim, columns, first, line);
     }
 }
 
-// Notes what is known of a line.
+// Notes the same of one line of the circuit.
 fn note_line(
     good: &mut AnswerRows,
     turned: &mut AnswerRows,
-    bench: &mut Bench,
+    pattern_sim: &mut PatternSim,
     columns: &LogColumns,
     first: u32,
     line: u32,
 )
-    requires run { HasRunPatterns bench.old }
-    requires columns { AreColumnRows (length bench.old.good.circuit.positions) columns.now }
+    requires run { HasRunPatterns pattern_sim.old }
+    requires columns { AreColumnRows (length pattern_sim.old.good.circuit.positions) columns.now }
     requires aligned { first % 64 ≡ 0 }
-    requires line { line < line_count bench.old.good.circuit }
-    requires good { HaveRoom (line_count bench.old.good.circuit) first (length bench.old.block.vectors) good.old }
-    requires turned { HaveRoom (line_count bench.old.good.circuit) first (length bench.old.block.vectors) turned.old }
-    ensures bench { bench.new ≡ record bench.old { sim = bench.new.sim } }
-    ensures run { HasRunPatterns bench.new }
-    ensures good { IsLineNoted (IsFreeValue bench.old.good.circuit bench.old.block.vectors) first (length bench.old.block.vectors) good.old good.new line }
-    ensures turned { IsLineNoted (IsTurnedLane bench.old.good.circuit bench.old.block.vectors columns.now first) first (length bench.old.block.vectors) turned.old turned.new line }
+    requires line { line < line_count pattern_sim.old.good.circuit }
+    requires good { HaveRoom (line_count pattern_sim.old.good.circuit) first (length pattern_sim.old.block.vectors) good.old }
+    requires turned { HaveRoom (line_count pattern_sim.old.good.circuit) first (length pattern_sim.old.block.vectors) turned.old }
+    ensures pattern_sim { pattern_sim.new ≡ record pattern_sim.old { sim = pattern_sim.new.sim } }
+    ensures run { HasRunPatterns pattern_sim.new }
+    ensures good { IsLineNoted (IsFreeValue pattern_sim.old.good.circuit pattern_sim.old.block.vectors) first (length pattern_sim.old.block.vectors) good.old good.new line }
+    ensures turned { IsLineNoted (IsTurnedLane pattern_sim.old.good.circuit pattern_sim.old.block.vectors columns.now first) first (length pattern_sim.old.block.vectors) turned.old turned.new line }
 {
-    bench
+    pattern_sim
         .sim
-        .flip(&bench.good, Head::Line(line), Lanes::all(true));
-    let count = bench.block.live();
+        .flip(&pattern_sim.good, Head::Line(line), Lanes::all(true));
+    let count = pattern_sim.block.live();
     let row = line as usize;
-    note_lanes(good, row, bench.good.lanes(line), first, count);
-    note_fitting(turned, row, columns, &bench.sim, first, count);
+    note_lanes(good, row, pattern_sim.good.lanes(line), first, count);
+    note_fitting(turned, row, columns, &pattern_sim.sim, first, count);
 }
 
-// Notes in a row so many lanes, at the lines of a log from the first one on.
+// Writes the first `count` lanes to a row, at the lines of the log starting at `first`.
 fn note_lanes(rows: &mut AnswerRows, row: usize, lanes: Lanes, first: u32, count: u32)
     requires aligned { first % 64 ≡ 0 }
     requires count { count ≤ LANES }
@@ -124,7 +132,7 @@ fn note_lanes(rows: &mut AnswerRows, row: usize, lanes: Lanes, first: u32, count
     }
 }
 
-// Notes in a row in which of so many lanes the answers have every observed bit of the line.
+// Writes to a row, for each of the first `count` lanes, whether the answers have every observed bit of the log's line.
 fn note_fitting(
     rows: &mut AnswerRows,
     row: usize,

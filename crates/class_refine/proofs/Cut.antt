@@ -16,7 +16,7 @@ use Rattle.class_refine.proofs.Ranges.{filter_all, range_below, position_cases}
 use Rattle.class_refine.proofs.Pieces.{IsSound, representative_lowest, members-All, members-contains, piece_is, new_lowest-All, after_cases, moves_into, moved_from}
 use Rattle.class_refine.proofs.Refined.{sound_from, representative-member, split_adds, adds_split, cuts_from, from_cuts, whole-first, few_classes, whole-refined, count-refined, numbers-refined, class-refined, class_old, part_members}
 
--- no more classes than numbers after a cut, whether it adds some or not
+-- after a cut there are at most as many classes as numbers, whether it adds some or not
 pub few_after : (t : ClassTable) (row : List (List Bool)) → IsWhole t → class_count t + length (new_lowest t row) ≤ length t.class_of
 few_after t row w =
     grind (arith, few_classes t w, few_classes (refined_table t row), whole-refined t row w, count-refined t row, numbers-refined t row)
@@ -24,7 +24,7 @@ few_after t row w =
 is_in-inside : (class_of : List ℕ) (class n : ℕ) → n < length class_of → is_in class_of class n ≡ eqb (get_or class_of n 0) class
 is_in-inside class_of class n h = rw (slice_get-get_or class_of n 0 h) refl
 
--- the groups with the pieces behind them, before any number leaves
+-- The groups with the pieces after them, before any number leaves.
 pub record AreJoined (t : ClassTable) (row : List (List Bool)) (groups : List (List ℕ)) : Type 0 where
   pub whole : IsWhole t
   pub small : length t.class_of < 2 ^ 32
@@ -109,7 +109,7 @@ module _ (t : ClassTable) (row : List (List Bool)) (groups : List (List ℕ)) (a
       (filter_all (is_in (refined_table t row).class_of class) (members (refined_table t row) class)
       (λ k d l. let is = members-All (refined_table t row) class k d l in is_in-inside (refined_table t row).class_of class _ is.0 ∙ eq-eqb _ class is.1))
 
-  -- those of a group that are of its class after the cut are its members
+  -- the numbers of a group that are of its class after the cut are the members of the class
   pub left_are : (class : ℕ) → class < class_count (refined_table t row) → staying (refined_table t row).class_of groups class ≡ members (refined_table t row) class
   left_are class below =
       elim (cases_lt class (class_count t)) [

@@ -14,7 +14,7 @@ use Rattle.class_refine.proofs.Names.{Continues, reached, numbers_after}
 abbrev Births : Type 0
 Births = List (Option (ℕ × ℕ))
 
--- what is before a class, by its birth
+-- the earlier class of a class, by its birth
 abbrev before_at : Births → ℕ → ℕ → ℕ → Option (ℕ × ℕ) → ℕ
 before_at births first n class birth = option_map_or (λ birth. cond (ltb birth.1 first) class (class_before_within births first n birth.0)) birth class
 
@@ -22,7 +22,7 @@ born_early : (births : Births) (first n class patterns : ℕ) (birth : Option (�
 born_early births first n class patterns None few is = refl
 born_early births first n class patterns (Some birth) few is = let early : birth.1 < first = omega (arith, is.1) in grind (arith, nat_tests, early)
 
--- a class of so many patterns is its own
+-- a class of a table of at most `first` patterns is its own earlier class
 own_before : (t : ClassTable) → IsSound t → (births : Births) → Continues t births → (first : ℕ) → t.patterns ≤ first → (steps class : ℕ) → class < class_count t → class_before_within births first steps class ≡ class
 own_before t sound births more first few zero class old = refl
 own_before t sound births more first few (suc n) class old = ap (before_at births first n class) (more class old) ∙ born_early births first n class t.patterns (get_or t.births class None) few (sound.births class old)

@@ -14,7 +14,7 @@ use Rattle.class_refine.proofs.Ranges.{same_ordered, map_where}
 use Rattle.class_refine.proofs.Pieces.{IsSound, Begins, begins-true, begins_from, members-All, members_ascend, members-contains, piece_is, lead_is, same_piece, new_lowest-All, new_lowest_ordered, new_lowest-contains}
 use Rattle.class_refine.proofs.Leaving.{keyed}
 
--- a leaver in place of none
+-- what is read if there is no leaver
 abbrev pub no_leaver : Leaver
 no_leaver = record { number = 0; start = 0; end = 0 }
 
@@ -63,7 +63,7 @@ module _ (t : ClassTable) (row : List (List Bool)) where
     abbrev pub so_far : ℕ → List (List ℕ)
     so_far i = keyed (piece_lowest t row) (take i ns) (begun i)
 
-    -- ---- all were gone over
+    -- ---- after all numbers
 
     module _ (are : AreNumbers ns) where
       all_begin : IsSound t → filter (begins_class t row) ns ≡ new_lowest t row

@@ -1,4 +1,4 @@
--- The pieces that leavers make, while the leavers are gone over.
+-- The pieces that leavers make, one leaver after another.
 use Rattle.std.proofs.Common.{◌≡◌, ◌≢◌, ◌∙◌, ℕ, ◌+◌, ◌<◌, ◌≤◌, Bool, true, false, cond, eqb, ◌&&◌, List, [], ◌∷◌, ◌++◌, length, get_or, map, take, unwrap_or, refl, sym, ap, subst, arith, inl, inr, Option, None, Some, MatchOption, All, AllPairs, Contains}
 use Rattle.std.specs.Bool.{Decides}
 use Rattle.std.specs.Borrow.{Bor}
@@ -58,7 +58,7 @@ module _ (t : ClassTable) (row : List (List Bool)) (leavers : List Leaver) (posi
     pub key_is : HasKey t positions leaver key
     pub piece : get_or (begun t row numbers i) k 0 ≡ piece_lowest t row leaver.number
 
-  -- what is noted of a key among the first leavers
+  -- what is noted for a key among the first leavers
   abbrev pub IsNoted : ℕ → ℕ × Bor (List ℕ) → Option ℕ → Type 0
   IsNoted i key place = MatchOption place (All (λ leaver. HasKey t positions leaver key → ⊥) (take i leavers)) (IsFound i key)
 
@@ -141,7 +141,7 @@ module _ (t : ClassTable) (row : List (List Bool)) (leavers : List Leaver) (posi
       piece = ap (λ ls. get_or ls k 0) longer ∙ (get_or_append_left (begun t row numbers i) rest 0 k found.within ∙ found.piece);
     }
 
-    -- what is noted of a key that the leaver hasn't
+    -- what is noted for a key that the leaver doesn't have
     noted_more : (key : ℕ × Bor (List ℕ)) (place : Option ℕ) (rest : List ℕ) → begun t row numbers (i + 1) ≡ begun t row numbers i ++ rest → (HasKey t positions leaver key → All (λ other. HasKey t positions other key → ⊥) (take i leavers) → ⊥)
         → IsNoted i key place → IsNoted (i + 1) key place
     noted_more key place rest longer other noted =
@@ -158,7 +158,7 @@ module _ (t : ClassTable) (row : List (List Bool)) (leavers : List Leaver) (posi
       pub noted_are : (key : ℕ × Bor (List ℕ)) → IsNoted (i + 1) key (noted key)
 
     module _ (old new : ℕ × Bor (List ℕ) → Option ℕ) (key : ℕ × Bor (List ℕ)) (key_is : HasKey t positions leaver key) (noted : (q : ℕ × Bor (List ℕ)) → IsNoted i q (old q)) where
-      -- no earlier leaver has this key: it begins a piece
+      -- if no earlier leaver has this key, the leaver begins a piece
       new_turn : All (λ other. HasKey t positions other key → ⊥) (take i leavers) → ((q : ℕ × Bor (List ℕ)) → new q ≡ cond (is_eq (list_order key q)) (Some (length (begun t row numbers i))) (old q)) → Turn (length (begun t row numbers i)) new
       new_turn none news =
           let low = piece_lowest t row here in
@@ -210,7 +210,7 @@ module _ (t : ClassTable) (row : List (List Bool)) (leavers : List Leaver) (posi
             ];
           }
 
-      -- an earlier leaver has this key: it comes into its piece
+      -- if an earlier leaver has this key, the leaver comes into that one's piece
       known_turn : (k : ℕ) → IsFound i key k → ((q : ℕ × Bor (List ℕ)) → new q ≡ old q) → Turn k new
       known_turn k found news =
           let first = found.leaver in

@@ -1,4 +1,4 @@
--- The pieces that leave a class, while its members are gone over.
+-- The pieces that leave a class, one member after another.
 use Rattle.std.proofs.Common.{◌≡◌, ◌≢◌, ◌∙◌, ℕ, ◌+◌, ◌<◌, ◌≤◌, Bool, true, false, cond, eqb, ◌&&◌, List, [], ◌∷◌, ◌++◌, length, get_or, map, set, take, unwrap_or, refl, sym, ap, subst, arith, inl, inr, Option, None, Some, MatchOption, filter, All, Contains}
 use Rattle.std.specs.Bool.{Decides}
 use Rattle.std.specs.Borrow.{Bor}
@@ -80,7 +80,7 @@ pub in_either : {P R : Type 0} {Q S : ℕ → Type 0} (o : Option ℕ) → (P �
 in_either None f g m = f m
 in_either (Some k) f g m = g k m
 
--- a place that is noted of words is that of a number whose row has them, and where none is noted no row has them
+-- A place that is noted for words is that of a number whose row has them, and if none is noted no row has them.
 abbrev pub IsNoted : List (List Bool) → List ℕ → Bor (List ℕ) → Option ℕ → Type 0
 IsNoted row lows words place =
     MatchOption place (All (λ low. IsPacked (get_or row low []) words.now → ⊥) lows) (λ k. (k < length lows) × IsPacked (get_or row (get_or lows k 0) []) words.now)
@@ -88,7 +88,7 @@ IsNoted row lows words place =
 pub record AreNoted (row : List (List Bool)) (lows : List ℕ) (noted : Bor (List ℕ) → Option ℕ) : Type 0 where
   pub at : (words : Bor (List ℕ)) → IsNoted row lows words (noted words)
 
--- ---- the members of a class that were gone over
+-- ---- the first members of a class
 
 module _ (t : ClassTable) (row : List (List Bool)) (class : ℕ) where
   -- the lowest numbers of the pieces that the first members begin, and what the pieces have so far
@@ -148,7 +148,7 @@ module _ (t : ClassTable) (row : List (List Bool)) (class : ℕ) where
               is.0.leaves (ap (representative t) is.1 ∙ (sym rep ∙ (sym low ∙ sym e))));
         }
 
-    -- any other member comes to the place that is noted of its words, or behind all
+    -- any other member comes to the place that is noted for its words, or after all
     pub record Turn (place : ℕ) (noted : Bor (List ℕ) → Option ℕ) : Type 0 where
       pub within : place ≤ length (begun i)
       pub parents : map (class_at t) (begun (i + 1)) ≡ cond (eqb place (length (begun i))) (map (class_at t) (begun i) ++ class ∷ []) (map (class_at t) (begun i))
@@ -157,7 +157,7 @@ module _ (t : ClassTable) (row : List (List Bool)) (class : ℕ) where
 
     module _ (differs : answer_at t row here ≢ answer_at t row (representative t class)) (old new : Bor (List ℕ) → Option ℕ) (key : Bor (List ℕ)) (packed : IsPacked (answer_at t row here) key.now)
         (wide : (m : ℕ) → m < length t.class_of → length (answer_at t row m) ≡ length (answer_at t row here)) (are : AreNoted row (begun i) old) where
-      -- no piece with these words was begun: it begins one
+      -- if no piece with these words was begun, the member begins one
       new_turn : All (λ low. IsPacked (answer_at t row low) key.now → ⊥) (begun i) → ((q : Bor (List ℕ)) → new q ≡ cond (is_eq (words_order key q)) (Some (length (begun i))) (old q)) → Turn (length (begun i)) new
       new_turn none news =
           let xs = take i (members t class) in
@@ -204,7 +204,7 @@ module _ (t : ClassTable) (row : List (List Bool)) (class : ℕ) where
             };
           }
 
-      -- a piece with these words was begun: it comes into it
+      -- if a piece with these words was begun, the member comes into it
       known_turn : (k : ℕ) → k < length (begun i) → IsPacked (answer_at t row (get_or (begun i) k 0)) key.now → ((q : Bor (List ℕ)) → new q ≡ old q) → Turn k new
       known_turn k l is news =
           let low = get_or (begun i) k 0 in
@@ -230,7 +230,7 @@ module _ (t : ClassTable) (row : List (List Bool)) (class : ℕ) where
           let is = rw e at (are.at key) in
           subst (λ p. Turn p new) (sym at) (known_turn k is.0 is.1 news)
 
-  -- all members were gone over
+  -- after all members
   pub all_pieces : (i : ℕ) → length (members t class) ≤ i → so_far i ≡ map (piece_of t row) (filter (begins_class t row) (members t class))
   all_pieces i over =
       rw (take_all i (members t class) over)
@@ -240,7 +240,7 @@ module _ (t : ClassTable) (row : List (List Bool)) (class : ℕ) where
       let is = All-filter (begins_class t row) (λ n. (n < length t.class_of) × (class_at t n ≡ class)) (members t class) (members-All t class) k d l in
       ap (λ c. filter (λ n. eqb (piece_lowest t row n) low) (members t c)) (sym is.1)))
 
--- ---- the pieces that leave some classes, and those of one more behind them
+-- ---- the pieces that leave some classes, and those of one more after them
 
 pub pieces_more : {t : ClassTable} {row : List (List Bool)} {before here more : List ℕ} {groups cut_groups all_groups : List (List ℕ)} {parents cut_parents all_parents : List ℕ} → ArePieces t row before groups parents → ArePieces t row here cut_groups cut_parents
     → all_groups ≡ groups ++ cut_groups → all_parents ≡ parents ++ cut_parents → more ≡ before ++ here → ArePieces t row more all_groups all_parents

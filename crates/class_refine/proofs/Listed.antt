@@ -11,9 +11,9 @@ use Rattle.class_refine.specs.CutIn.{AreClassesOf, AreAlikeElsewhere}
 use Rattle.class_refine.proofs.Ranges.{Ascends, filter_none, position_cases}
 use Rattle.class_refine.proofs.Pieces.{members-All, begins_from, lead_is, same_piece}
 
--- ---- parts of which most are empty
+-- ---- parts, most of them empty
 
--- what has a part is listed
+-- Each number that has a part is listed.
 abbrev AreListed : (ℕ → List ℕ) → ℕ → List ℕ → Type 0
 AreListed F s cs = (c : ℕ) → s ≤ c → (F c ≡ []) ⊎ Contains cs c
 

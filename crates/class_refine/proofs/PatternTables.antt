@@ -1,4 +1,5 @@
--- Tables of a circuit's patterns: each fault has an answer to a vector, each vector a row of them, and a table all fault numbers.
+-- Tables of a circuit's patterns: each fault has an answer to a vector, each vector a row of them, and a table all
+-- fault numbers.
 use Rattle.std.proofs.Common.{◌≡◌, ℕ, ◌<◌, Bool, List, [], ◌∷◌, length, get_or, refl, ap, ◌∙◌}
 use Rattle.std.specs.List.{AllZip}
 use Rattle.std.proofs.lemmas.List.{length-map, length-replicate}

@@ -14,7 +14,8 @@ use Rattle.net_model.proofs.Elements.{true_false, Contains-filter, Contains-flat
 use Rattle.class_refine.specs.Laws.{ComesBefore}
 use Rattle.class_refine.proofs.Ranges.{IsLowest, found_lowest, lowest_once, range_below, range-contains, Ascends, range_ascends, AreDistinct, same_place, from_parts, parts-pairs, position_cases}
 
--- each number has a class that is counted, and each class but class 0 was cut from a lower one by one of the patterns
+-- Each number has a class that is counted, and each class except class 0 was cut from a lower one by one of the
+-- patterns.
 pub record IsSound (t : ClassTable) : Type 0 where
   pub classes : (n : ℕ) → n < length t.class_of → class_at t n < class_count t
   pub births : (class : ℕ) → class < class_count t → MatchOption (get_or t.births class None) (class ≡ 0) (λ birth. (birth.0 < class) × (birth.1 < t.patterns))
@@ -96,7 +97,7 @@ module _ (t : ClassTable) where
 
     -- ---- the lowest numbers of the new classes
 
-    -- a number that is the lowest of a piece which leaves its class
+    -- The number is the lowest of a piece that leaves its class.
     pub record Begins (n : ℕ) : Type 0 where
       pub inside : n < length t.class_of
       pub own : piece_lowest t row n ≡ n

@@ -118,7 +118,7 @@ module _ (t : ClassTable) (row : List (List Bool)) where
 
   -- ---- members after the cut
 
-  -- a part of the members of a class that is what a class has after the cut
+  -- a part of the members of a class that is all of a class after the cut
   pub part_members : (class now : ℕ) (p : ℕ → Bool) → ((n : ℕ) → n < length t.class_of → (eqb (class_at t n) class && p n) ≡ eqb (class_at (refined_table t row) n) now)
       → filter p (members t class) ≡ members (refined_table t row) now
   unfolding members
@@ -183,7 +183,7 @@ whole-first numbers some =
       patterns = omega arith;
     }
 
--- there are no more classes than numbers, since each has a member
+-- there are at most as many classes as numbers, since each class has a member
 pub few_classes : (t : ClassTable) → IsWhole t → class_count t ≤ length t.class_of
 few_classes t w =
     le-length_from_below t.class_of (class_count t)

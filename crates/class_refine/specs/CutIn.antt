@@ -8,6 +8,6 @@ pub record AreClassesOf (t : ClassTable) (classes : List ℕ) : Type 0 where
   pub within : All (λ class. class < class_count t) classes
   pub ascend : IsStrictlyIncreasing classes
 
--- Two numbers of a class that isn't one of these answer alike.
+-- Two numbers of one class answer alike, unless the class is one of these.
 abbrev pub AreAlikeElsewhere : ClassTable → List (List Bool) → List ℕ → Type 0
 AreAlikeElsewhere t row classes = (m n : ℕ) → m < length t.class_of → n < length t.class_of → class_at t m ≡ class_at t n → (answer_at t row m ≡ answer_at t row n) ⊎ Contains classes (class_at t m)

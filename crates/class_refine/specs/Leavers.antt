@@ -14,12 +14,11 @@ pub record LeavesClass (t : ClassTable) (row : List (List Bool)) (n : ℕ) : Typ
   pub below : n < length t.class_of
   pub differs : answer_at t row n ≢ answer_at t row (representative t (class_at t n))
 
--- These are all and only the numbers that leave their classes by the row, by class and then by number.
+-- The leavers are all numbers that leave their classes by the row, and no others, by class and then by number. A part
+-- of the positions tells the answer of each: two of one class have the same part exactly if they answer alike.
 pub record AreLeavers (t : ClassTable) (row : List (List Bool)) (leavers : List Leaver) (positions : List ℕ) : Type 0 where
-  -- What tells an answer is a part of the positions.
   pub parts : All (λ leaver. (leaver.start ≤ leaver.end) × (leaver.end ≤ length positions)) leavers
   pub ordered : AllPairs (λ a b. ComesBefore t a.number b.number) leavers
   pub only : All (λ leaver. LeavesClass t row leaver.number) leavers
   pub all : (n : ℕ) → LeavesClass t row n → Contains (map (λ leaver. leaver.number) leavers) n
-  -- Two of one class have one list exactly where they answer alike.
   pub alike : AllPairs (λ a b. class_at t a.number ≡ class_at t b.number → (told positions a ≡ told positions b) ↔ (answer_at t row a.number ≡ answer_at t row b.number)) leavers

@@ -20,7 +20,7 @@ pub(crate) struct Pieces {
     pub(crate) parents: Vec<u32>,
 }
 
-// Written out, it is one step in the proof of each function that lets pieces go.
+// As for `Classes`.
 impl Drop for Pieces {
     fn drop(self) {
         let Pieces {
@@ -31,7 +31,8 @@ impl Drop for Pieces {
 }
 
 impl Pieces {
-    /// Puts a number of a class into the piece at a place, or begins one behind the others.
+    /// Puts the number `n` of `class` into the piece at `place`, or into a new piece after all others if `place` is
+    /// their count.
     pub(crate) fn put(
         &mut self,
         alloc: Global,
@@ -53,7 +54,7 @@ impl Pieces {
 }
 
 impl Classes {
-    /// The pieces that leave their classes, by class and then by lowest member.
+    /// Returns the pieces that leave their classes, by class and then by lowest member.
     pub(crate) fn pieces(&self, answers: &AnswerRows) -> Result<Pieces, AllocError>
         requires { length answers.now ≡ length self.now.class_of }
         ensures { IfOk result (λ pieces. AreLeaving self.now answers.now pieces.groups.items pieces.parents.items) }
@@ -69,7 +70,8 @@ impl Classes {
         Ok(pieces)
     }
 
-    /// The same, where no piece leaves a class that isn't one of these.
+    /// Returns the pieces that leave their classes, by class and then by lowest member. They leave only classes in
+    /// `classes`.
     pub(crate) fn pieces_in(
         &self,
         classes: &[u32],
@@ -91,7 +93,6 @@ impl Classes {
         Ok(pieces)
     }
 
-    // Adds the pieces that leave a class.
     fn add_pieces(
         &self,
         alloc: Global,
@@ -109,7 +110,7 @@ impl Classes {
         Ok(())
     }
 
-    // The pieces that leave a class. A number that answers as the representative stays.
+    // Returns the pieces that leave `class`. A number that answers as the representative stays.
     fn cut_class(
         &self,
         alloc: Global,
@@ -138,7 +139,7 @@ impl Classes {
     }
 }
 
-/// The place noted for a key, which is the next one where there was none.
+/// Returns the place that is noted for `key`. If none is, notes and returns `next`.
 pub(crate) fn place_with<K: Ord + Copy>(
     begun: &mut BTreeMap<K, usize>,
     key: K,

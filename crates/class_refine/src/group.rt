@@ -20,7 +20,7 @@ impl Model for Group {
 }
 
 impl Group {
-    /// The numbers below a limit.
+    /// Returns the numbers below `limit`.
     pub(crate) fn below(alloc: Global, limit: u32) -> Result<Group, AllocError>
         ensures { IfOk result (λ group. group ≡ range_with_len 0 limit) }
     {
@@ -31,7 +31,7 @@ impl Group {
         Ok(Group { numbers })
     }
 
-    /// One number.
+    /// Returns the group of one number.
     pub(crate) fn of(alloc: Global, n: u32) -> Result<Group, AllocError>
         ensures { IfOk result (λ group. group ≡ n ∷ []) }
     {
@@ -52,7 +52,7 @@ impl Group {
         self.numbers.as_slice()
     }
 
-    /// Leaves the numbers that are of a class.
+    /// Keeps only the numbers that are of `class`.
     pub(crate) fn keep(&mut self, class_of: &[u32], class: u32)
         ensures { self.new ≡ filter (is_in class_of.now class) self.old }
     {
@@ -60,7 +60,6 @@ impl Group {
     }
 }
 
-// Whether a number is of a class.
 fn is_of_class(class_of: &[u32], class: u32, n: u32) -> bool
     ensures { result ≡ is_in class_of.now class n }
 {

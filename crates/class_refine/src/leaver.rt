@@ -12,7 +12,7 @@ pub struct Leaver {
 }
 
 impl Leaver {
-    /// The part of the positions that tells the answer.
+    /// Returns the part of `positions` that tells the answer.
     pub(crate) fn told(self, positions: &[u32]) -> &[u32]
         requires part { self.start ≤ self.end }
         requires within { self.end ≤ length positions.now }

@@ -7,7 +7,7 @@ ghost use Rattle.class_refine.specs.Steps.{staying, IsMove};
 
 use crate::group::Group;
 
-/// Adds the births of new classes, of which each leaves one of the parents at this pattern.
+/// Adds the births of new classes, one for each of `parents`, from which `pattern` cut it.
 pub(crate) fn add_births(births: &mut Vec<Option<(u32, u32)>>, parents: &[u32], pattern: u32)
     requires { vec_len births.old + length parents.now ≤ vec_capacity births.old }
     ensures { births.new.items ≡ births.old.items ++ map (λ parent. Some (parent, pattern)) parents.now }
@@ -17,7 +17,7 @@ pub(crate) fn add_births(births: &mut Vec<Option<(u32, u32)>>, parents: &[u32], 
     }
 }
 
-/// Puts the numbers of each group from the first one on into the class of that number.
+/// Puts the numbers of each group, starting at group `first`, into the class with the group's number.
 pub(crate) fn enter_classes(class_of: &mut [u32], groups: &[Group], first: usize)
     requires few { length groups.now < 2 ^ 32 }
     requires inside { All (All (λ n. n < length class_of.old)) groups.now }
@@ -28,7 +28,6 @@ pub(crate) fn enter_classes(class_of: &mut [u32], groups: &[Group], first: usize
     }
 }
 
-// Puts numbers into a class.
 fn enter_class(class_of: &mut [u32], numbers: &[u32], class: u32)
     requires { All (λ n. n < length class_of.old) numbers.now }
     ensures entered { All (λ n. slice_index class_of.new n ≡ class) numbers.now }
@@ -39,7 +38,7 @@ fn enter_class(class_of: &mut [u32], numbers: &[u32], class: u32)
     }
 }
 
-/// Leaves in the groups of these classes the numbers that are still of the class.
+/// Keeps in the group of each of `classes` only the numbers that are still of the class.
 pub(crate) fn keep_members(groups: &mut [Group], class_of: &[u32], classes: &[u32])
     requires { All (λ class. class < length groups.old) classes.now }
     ensures { (class : ℕ) → Contains classes.now class ⊎ (staying class_of.now groups.old class ≡ slice_index_or groups.old class []) → slice_index_or groups.new class [] ≡ staying class_of.now groups.old class }

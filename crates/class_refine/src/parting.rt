@@ -1,4 +1,4 @@
-//! The pieces that the numbers make which leave their classes.
+//! The pieces that leavers make.
 
 ghost use Rattle.std.specs.Prelude.{Bool, List, IfOk};
 ghost use Rattle.class_refine.specs.Leavers.{AreLeavers};
@@ -11,7 +11,7 @@ use std::alloc::AllocError;
 use std::collections::BTreeMap;
 
 impl Classes {
-    /// The pieces that these leavers make, by class and then by lowest member.
+    /// Returns the pieces that `leavers` make, by class and then by lowest member.
     pub(crate) fn pieces_of(
         &self,
         leavers: &[Leaver],

@@ -1,4 +1,4 @@
--- When two literals are one.
+-- When two literals are equal.
 use Rattle.std.proofs.Common.{◌≡◌, ◌≢◌, ◌⊎◌, inl, inr, ℕ, ◌+◌, ◌*◌, ◌<◌, ◌≤◌, refl, sym, ◌∙◌, ap, subst, eqb-true, eq-eqb, arith}
 use Rattle.std.specs.Prelude.{Bool, true, false, not, ◌==◌, if◌then◌else◌}
 use Rattle.std.specs.Bool.{beq}
@@ -35,7 +35,7 @@ sign_cases true false = inr (refl, λ e. cc)
 sign_cases false true = inr (refl, λ e. cc)
 sign_cases false false = inl refl
 
--- two literals of one variable
+-- two literals of one variable are equal or opposite
 pub same_or_opposite : (l m : Literal) → l.variable ≡ m.variable → (l ≡ m) ⊎ ((l ≡ opposite m) × (l ≢ m))
 same_or_opposite l m variables = elim (sign_cases l.positive m.positive) [
   | inl signs ↦ inl (same_literals l m variables signs)

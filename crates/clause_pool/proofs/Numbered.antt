@@ -50,7 +50,7 @@ all_at_number P clauses number clause all is = let h = numbered_in clauses numbe
 pub all_numbered : (P : Clause → Type 0) (clauses : List Clause) → ((number : ℕ) (clause : Clause) → numbered_clause clauses number ≡ Some clause → P clause) → All P clauses
 all_numbered P clauses h = λ k d within. h (k + 1) (get_or clauses k d) (numbered_at clauses k d within)
 
--- the clause that was pushed last
+-- the clause that was added last has the last number
 pub numbered_last : (clauses : List Clause) (clause : Clause) (number : ℕ) → number ≡ length (clauses ++ clause ∷ []) → numbered_clause (clauses ++ clause ∷ []) number ≡ Some clause
 numbered_last clauses clause number is =
     let place : length clauses ≡ number - 1 = omega (arith, length_push clauses clause) in

@@ -1,4 +1,4 @@
--- What a set of literals says of a literal.
+-- What a set of held literals says of a literal.
 use Rattle.std.proofs.Common.{◌≡◌, ◌≢◌, ◌⊎◌, inl, inr, zero, suc, ◌<◌, ℕ, List, [], ◌∷◌, length, get_or, arith}
 use Rattle.std.specs.Prelude.{Contains}
 use Rattle.clause_pool.specs.Literal.{Literal, opposite}

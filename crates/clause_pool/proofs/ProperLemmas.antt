@@ -8,7 +8,7 @@ use Rattle.clause_pool.specs.Literal.{Literal}
 use Rattle.clause_pool.specs.Clauses.{Clause}
 use Rattle.clause_pool.specs.Proper.{IsVariable, HasVariablesUpTo, HasNoVariableTwice}
 
--- a clause whose literals another one has
+-- a clause whose literals are all in another clause has no other variables
 pub variables_of_part : (n : ℕ) (part clause : Clause) → ((l : Literal) → Contains part l → Contains clause l) → HasVariablesUpTo n clause → HasVariablesUpTo n part
 variables_of_part n part clause inside all = λ k d h.
     All-contains (λ (l : Literal). IsVariable n l.variable) clause (get_or part k d) all (inside (get_or part k d) (Contains-get_or part k d h))
@@ -20,7 +20,7 @@ places_apart clause i j d once first second ne = elim (cases_lt i j) [
   | inr le ↦ λ e. once j i d (omega arith) first (sym e)
 ]
 
--- literals of one variable are one
+-- literals of the clause with one variable are equal
 pub same_variable : (clause : Clause) (l m : Literal) → HasNoVariableTwice clause → Contains clause l → Contains clause m → l.variable ≡ m.variable → l ≡ m
 same_variable clause l m once one two e =
     let first : get_or clause one.0 m ≡ l = get_or_default clause one.0 m l one.1 ∙ one.2 in

@@ -21,7 +21,7 @@ pub length-clauses_of : (from : ℕ) (ends : List ℕ) (literals : List Literal)
 length-clauses_of from [] literals = refl
 length-clauses_of from (end ∷ ends) literals = ap suc (length-clauses_of end ends (drop (end - from) literals))
 
--- what is left of a region behind its first clause
+-- what is left of a region after its first clause
 rest_fits : (from end total : ℕ) (ends : List ℕ) (literals : List Literal) → AreEnds from (end ∷ ends) total → from + length literals ≡ total
     → (end - from ≤ length literals) × (end + length (drop (end - from) literals) ≡ total)
 rest_fits from end total ends literals h whole =
@@ -54,7 +54,7 @@ literal_count-clauses_of from (end ∷ ends) literals total h whole =
     let parts = literal_count-cons (take (end - from) literals) (clauses_of end ends (drop (end - from) literals)) in
     omega (arith, h.0, parts)
 
--- where a clause begins, from the place where the region does
+-- where a clause begins, counted from the place where the region does
 begin_at : ℕ → List ℕ → ℕ → ℕ
 begin_at from ends zero = from
 begin_at from [] (suc at) = from
@@ -113,7 +113,7 @@ clause_at ends literals at h below =
     ∙ (ap (λ n. Some (take (get_or ends at 0 - begin_at 0 ends at) (drop n literals))) zero_off
     ∙ ap (λ start. Some (slice_range literals start (get_or ends at 0))) (start_is ends at below))
 
--- the ends of the first clauses cut what these clauses have
+-- the ends of the first clauses cut the literals of these clauses
 pub AreEnds-take : (from : ℕ) (ends : List ℕ) (literals : List Literal) (total k : ℕ) → AreEnds from ends total → from + length literals ≡ total → k ≤ length ends
     → AreEnds from (take k ends) (from + literal_count (take k (clauses_of from ends literals)))
 AreEnds-take from ends literals total zero h whole le = omega arith

@@ -4,7 +4,7 @@ use Rattle.std.proofs.Common.{arith}
 use Rattle.std.proofs.lemmas.Bool.Decides.{nat_tests}
 use Rattle.clause_pool.specs.Literal.{Literal}
 
--- twice the variable, and one more where the literal is positive
+-- the number of a literal: twice its variable, and one more if it is positive
 abbrev pub code_of : Literal → ℕ
 code_of l = 2 * l.variable + (if l.positive then 1 else 0)
 

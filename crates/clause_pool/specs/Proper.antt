@@ -3,19 +3,19 @@ use Rattle.std.specs.Prelude.{◌≢◌, ℕ, ◌<◌, ◌≤◌, All, AllPairs}
 use Rattle.clause_pool.specs.Literal.{Literal}
 use Rattle.clause_pool.specs.Clauses.{Clause}
 
--- one of so many variables
+-- The number is one of the variables 1 to `variables`.
 abbrev pub IsVariable : ℕ → ℕ → Type 0
 IsVariable variables x = (0 < x) × (x ≤ variables)
 
--- The clause has variables from 1 up to this one.
+-- Each variable of the clause is one of 1 to `variables`.
 abbrev pub HasVariablesUpTo : ℕ → Clause → Type 0
 HasVariablesUpTo variables clause = All (λ (l : Literal). IsVariable variables l.variable) clause
 
--- No variable stands in the clause twice.
+-- No variable is in the clause twice.
 abbrev pub HasNoVariableTwice : Clause → Type 0
 HasNoVariableTwice clause = AllPairs (λ (l m : Literal). l.variable ≢ m.variable) clause
 
--- The clause is over so many variables, and has none of them twice.
+-- Each variable of the clause is one of 1 to `variables`, and none is in it twice.
 pub record IsProper (variables : ℕ) (clause : Clause) : Type 0 where
   pub inside : HasVariablesUpTo variables clause
   pub once : HasNoVariableTwice clause

@@ -1,5 +1,5 @@
-//! Clauses of literals, kept in one region with room for more. What is said of clauses everywhere, such as which variables
-//! they have, is defined here.
+//! Clauses of literals, kept in one region with room for more. The definitions about clauses that other crates share,
+//! such as which variables a clause has, are here.
 #![tactic(auto)]
 
 mod lit;

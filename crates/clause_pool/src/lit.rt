@@ -9,7 +9,7 @@ use std::marker::Model;
 /// A variable or its negation. Variables are numbered from 1.
 #[derive(Clone, Copy, Debug, PartialEq, Eq)]
 pub struct Lit {
-    // twice the variable, and one more where the literal is positive
+    // Twice the variable, and one more if the literal is positive.
     code: u32,
 }
 
@@ -30,7 +30,7 @@ impl Model for Lit {
 }
 
 impl Lit {
-    /// The literal of a variable, positive or negated.
+    /// Returns the literal of `variable`, positive or negated.
     pub fn new(variable: u32, positive: bool) -> Lit
         requires from { 0 < variable }
         requires below { variable < 2 ^ 31 }
@@ -56,14 +56,14 @@ impl Lit {
         self.code % 2 == 1
     }
 
-    /// The literal as a number: twice its variable, and one more where it is positive.
+    /// Returns the number of the literal: twice its variable, and one more if it is positive.
     pub fn code(self) -> usize
         ensures { result ≡ code_of self }
     {
         self.code as usize
     }
 
-    /// The negation of the literal.
+    /// Returns the negation of the literal.
     pub fn opposite(self) -> Lit
         ensures { result ≡ opposite self }
     {

@@ -1,4 +1,4 @@
-//! A pool of clauses.
+//! `Pool`, clauses one after another, with spare room, marks and release.
 
 ghost use Rattle.std.specs.Prelude.{◌≡◌, ◌↔◌, ◌+◌, ◌<◌, ◌≤◌, ◌^◌, [], ◌∷◌, ◌++◌, Some, length, take, max, slice_range, vec_len, vec_capacity, IsErr, IfOk, OnOk, OnErr};
 ghost use Rattle.clause_pool.specs.PoolFields.{start_place};
@@ -45,7 +45,7 @@ impl Model for Pool {
 }
 
 impl Pool {
-    /// An empty pool with room for so many clauses and literals.
+    /// Returns an empty pool with room for `clauses` clauses and `literals` literals.
     pub fn with_room(alloc: Global, clauses: usize, literals: usize) -> Result<Pool, AllocError>
         requires { clauses < 2 ^ 32 }
         ensures { IfOk result (λ pool. pool ≡ record { clauses = []; spare_clauses = clauses; spare_literals = literals }) }
@@ -60,7 +60,7 @@ impl Pool {
         })
     }
 
-    /// Makes room for at least so many more clauses and literals.
+    /// Makes room for at least `clauses` more clauses and `literals` more literals. After an error nothing has changed.
     pub fn grow(&mut self, clauses: usize, literals: usize) -> Result<(), AllocError>
         requires { length self.old.clauses + clauses < 2 ^ 32 }
         ensures kept { self.new.clauses ≡ self.old.clauses }
@@ -75,7 +75,8 @@ impl Pool {
         Ok(())
     }
 
-    /// Adds a clause, and answers its number.
+    /// Adds `clause` and returns its number. Returns `Full` exactly if no clause is spare, or fewer literals are spare
+    /// than the clause has. After an error nothing has changed.
     pub fn push(&mut self, clause: &[Lit]) -> Result<u32, Full>
         ensures full { IsErr result ↔ LacksRoom self.old clause.now }
         ensures clauses { OnOk result (self.new.clauses ≡ self.old.clauses ++ clause.now ∷ []) }
@@ -94,7 +95,7 @@ impl Pool {
         Ok(self.ends.len() as u32)
     }
 
-    /// Adds a clause, for which the pool grows where it lacks room, and answers its number.
+    /// Adds `clause` and returns its number. The pool grows if it lacks room. After an error nothing has changed.
     pub fn add(&mut self, clause: &[Lit]) -> Result<u32, AllocError>
         requires { length self.old.clauses + 1 < 2 ^ 32 }
         ensures clauses { OnOk result (self.new.clauses ≡ self.old.clauses ++ clause.now ∷ []) }
@@ -110,14 +111,14 @@ impl Pool {
         }
     }
 
-    /// How many clauses there are.
+    /// Returns the number of clauses.
     pub fn len(&self) -> u32
         ensures { result ≡ length self.now.clauses }
     {
         self.ends.len() as u32
     }
 
-    /// The clause of a number.
+    /// Returns the clause with number `number`.
     pub fn get(&self, number: u32) -> &[Lit]
         requires from { 0 < number }
         requires below { number ≤ length self.now.clauses }
@@ -127,21 +128,21 @@ impl Pool {
         part(&self.literals, start_of(&self.ends, at), self.ends[at])
     }
 
-    /// For how many more clauses there is room. For tests and for callers from outside.
+    /// Returns for how many more clauses there is room. For tests and for callers from outside.
     pub fn spare_clauses(&self) -> usize
         ensures { result ≡ self.now.spare_clauses }
     {
         self.spare_clauses
     }
 
-    /// For how many more literals there is room. For tests and for callers from outside.
+    /// Returns for how many more literals there is room. For tests and for callers from outside.
     pub fn spare_literals(&self) -> usize
         ensures { result ≡ self.now.spare_literals }
     {
         self.spare_literals
     }
 
-    /// The state to which `release` can go back.
+    /// Returns the state to which `release` can go back.
     pub fn mark(&self) -> Mark
         ensures clauses { result.clauses ≡ length self.now.clauses }
         ensures literals { result.literals ≡ literal_count self.now.clauses }
@@ -152,7 +153,7 @@ impl Pool {
         }
     }
 
-    /// Gives up the clauses after a mark. Their places become spare.
+    /// Drops the clauses after a mark. Their places become spare.
     pub fn release(&mut self, mark: Mark)
         requires clauses { mark.clauses ≤ length self.old.clauses }
         requires literals { literal_count (take mark.clauses self.old.clauses) ≡ mark.literals }
@@ -167,7 +168,7 @@ impl Pool {
     }
 }
 
-// Where the clause of a place begins.
+// Returns where the clause at place `at` begins.
 fn start_of(ends: &[usize], at: usize) -> usize
     requires { at < length ends.now }
     ensures { result ≡ start_place ends.now at }
@@ -175,7 +176,6 @@ fn start_of(ends: &[usize], at: usize) -> usize
     if at == 0 { 0 } else { ends[at - 1] }
 }
 
-// A part of the literals.
 fn part(literals: &[Lit], start: usize, end: usize) -> &[Lit]
     requires start { start ≤ end }
     requires end { end ≤ length literals.now }
@@ -184,7 +184,7 @@ fn part(literals: &[Lit], start: usize, end: usize) -> &[Lit]
     &literals[start..end]
 }
 
-// Puts a clause at the region's end, where there is room for it.
+// Appends `clause` to the region, which has room for it.
 fn append(region: &mut Vec<Lit>, clause: &[Lit])
     requires { vec_len region.old + length clause.now ≤ vec_capacity region.old }
     ensures items { region.new.items ≡ region.old.items ++ clause.now }

@@ -110,7 +110,7 @@ all_from : {X : Type 0} (P : X → Type 0) (xs : List X) → AllByRecursion P xs
 all_from P [] each = All-nil P
 all_from P (x ∷ xs) each = All-cons P x xs each.0 (all_from P xs each.1)
 
--- what was checked has answers
+-- A checked result has answers.
 pub checked_answers : (c : Circuit) (records : List Record) (checked : Checked) → IsAccepted c records checked → AreAnswersOf c checked.patterns checked.classes
 checked_answers c records checked a =
     let of : IsTableOf c checked.patterns checked.classes = subst (λ (vs : List (List Bool)). IsTableOf c vs checked.classes) (sym a.patterns) a.table in
@@ -164,7 +164,7 @@ module _ (law : ValidIsTrue) (c : Circuit) (circuit : IsCircuit c) (records : Li
     classes_are : classes ≡ t
     classes_are = table_by c circuit remain (answered_remaining c all (answered c (patterns_in records) rows a.table.answers)) classes (subst (λ (vs : List (List Bool)). IsTableOf c vs classes) vectors_are of)
 
-    -- how many patterns remain
+    -- How many patterns remain.
     pub patterns_many : classes.patterns ≡ length (patterns_in left)
     patterns_many =
         ap (λ (u : ClassTable). u.patterns) classes_are ∙ (patterns_table numbers (answered_rows remain) ∙ (length-map remain (λ (p : Answered). p.1)
@@ -177,7 +177,7 @@ module _ (law : ValidIsTrue) (c : Circuit) (circuit : IsCircuit c) (records : Li
     patterns_few =
         omega (arith, ap (λ (u : ClassTable). u.patterns) classes_are, patterns_table numbers (answered_rows remain), length-map remain (λ (p : Answered). p.1), remaining_few numbers all, all_many, ap (λ (s : Summary). s.patterns) a.summary)
 
-    -- the text, from its parts
+    -- The first lines of the text.
     front : Budgets → List (List Bool) → List Record
     front budgets vectors = Head c.sources (length c.positions) numbers ∷ Budget budgets ∷ map Pattern vectors
 

@@ -14,12 +14,12 @@ use Rattle.compact_tests.proofs.SplitLemmas.{patterns_table}
 abbrev Births : Type 0
 Births = List (Option (ℕ × ℕ))
 
--- later rows leave a class's birth as it is
+-- Later rows leave the birth of a class as it is.
 births-fold : (rows : List (List (List Bool))) (t : ClassTable) (class : ℕ) → class < class_count t → get_or (fold refined_table t rows).births class None ≡ get_or t.births class None
 births-fold [] t class h = refl
 births-fold (row ∷ rows) t class h = births-fold rows (refined_table t row) class (omega (arith, h, count-refined t row)) ∙ birth_old t row class h
 
--- the class before, by the birth
+-- The class before, by the birth.
 abbrev by_birth : ℕ → ℕ → Option (ℕ × ℕ) → ℕ
 by_birth pattern class birth = option_map_or (λ birth. cond (eqb birth.1 pattern) birth.0 class) birth class
 
@@ -28,7 +28,7 @@ born_before pattern class None is = refl
 born_before pattern class (Some birth) is = ap (λ (b : Bool). cond b birth.0 class) (ne_eqb birth.1 pattern (λ e. absurd (omega (arith, e, is.1))))
 
 module _ (births : Births) (u : ClassTable) (row : List (List Bool)) (sound : IsSound u) (more : (class : ℕ) → class < class_count (refined_table u row) → get_or births class None ≡ get_or (refined_table u row).births class None) where
-  -- the class that a number's class was before the row
+  -- The class that a number's class was before the row.
   before_row : (n : ℕ) → n < length u.class_of → class_before births u.patterns (class_at (refined_table u row) n) ≡ class_at u n
   before_row n h = elim (after_cases u row sound n h) [
     | inl stays ↦

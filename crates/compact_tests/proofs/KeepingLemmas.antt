@@ -1,4 +1,4 @@
--- The classes of the patterns that are kept, one pattern more.
+-- The classes of the kept patterns, with one pattern more.
 use Rattle.std.proofs.Common.{◌≡◌, ◌∙◌, ◌↔◌, ℕ, zero, suc, ◌+◌, ◌<◌, inl, inr, Bool, false, List, [], ◌∷◌, length, take, get_or, replicate, refl, sym, ap, subst, arith}
 use Rattle.std.specs.Prelude.{All, Contains}
 use Rattle.std.proofs.lemmas.Bool.{cases_eq}
@@ -29,7 +29,7 @@ use Rattle.compact_tests.proofs.TableLemmas.{numbers-table, alike}
 use Rattle.compact_tests.proofs.SimulatedLemmas.{answer_row_at, as_many_rows, as_many_answered}
 use Rattle.compact_tests.proofs.ThinValid.{map_item}
 
--- rows that part the same numbers of each class make one table
+-- Rows that distinguish the same numbers of each class make one table.
 pub same_cut : (t : ClassTable) (row other : List (List Bool)) → IsWhole t → ((m n : ℕ) → m < length t.class_of → n < length t.class_of → class_at t m ≡ class_at t n → (answer_at t row m ≡ answer_at t row n) ↔ (answer_at t other m ≡ answer_at t other n))
     → refined_table t row ≡ refined_table t other
 same_cut t row other w alike =
@@ -68,7 +68,7 @@ module _ (n : AnswerNumbers) (lane : ℕ) (t groups : ClassTable) (listed : List
       let lead = lead_is t [] a ha in
       numbered.own place h ∙ (ap (λ (c : ℕ). get_or row (representative t c) []) is ∙ class_alike (representative t (class_at t a)) a lead.0 ha lead.1)
 
-  -- the rows part the numbers of each group as the answers do
+  -- The rows distinguish the numbers of each group as the answers do.
   part_alike : (a b : ℕ) → a < length groups.class_of → b < length groups.class_of → class_at groups a ≡ class_at groups b → (row_at rows a ≡ row_at rows b) ↔ (get_or row a [] ≡ get_or row b [])
   part_alike a b ga gb together =
       let ha : a < length t.class_of = omega (arith, ga, finer.numbers) in
@@ -155,7 +155,7 @@ place_alike all m n same (place ∷ places) within =
     (subst (λ (r : List (List Bool)). get_or r m [] ≡ get_or r n []) (row_of all place) (same place [] (omega (arith, inside, length-map all (λ (p : Answered). p.1)))))
     (place_alike all m n same places (All-tail (λ place. place < length all) place places within))
 
--- the patterns at places are needed where each splits a class of those before it
+-- The patterns at places are needed if each splits a class of those before it.
 pub places_needed : (c : Circuit) → IsCircuit c → (patterns : List (List Bool)) (t : ClassTable) (all : List Answered) → IsAnswered c patterns t all → (places : List ℕ) → All (λ place. place < length patterns) places → SplitInTurn c (vectors_at patterns places) → AreNeededOf t (patterns_at all places)
 places_needed c circuit patterns t all answered places within turn =
     let numbers = fault_count c in

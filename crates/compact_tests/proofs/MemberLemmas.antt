@@ -1,4 +1,4 @@
--- Rows of the members of classes, with the numbers of what their leads answer.
+-- Rows of the members of classes, with the numbers of the answers of their leads.
 use Rattle.std.proofs.Common.{◌≡◌, ◌≢◌, ◌∙◌, ◌^◌, ℕ, ◌+◌, ◌<◌, inl, inr, Bool, false, List, length, get_or, refl, sym, ap, subst, arith}
 use Rattle.std.specs.Prelude.{AllPairs, Contains}
 use Rattle.std.proofs.lemmas.Bool.{cases_eq}

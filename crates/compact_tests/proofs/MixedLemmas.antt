@@ -23,7 +23,7 @@ both_is false true h = h refl
 both_is false false h = refl
 
 module _ (t groups : ClassTable) (finer : IsFiner groups t) where
-  -- the members of a class are those of its group that are of the class
+  -- The members of a class are those members of its group that are in the class.
   class_members : (m : ℕ) → m < length t.class_of → members t (class_at t m) ≡ filter (λ n. eqb (class_at t n) (class_at t m)) (members groups (class_at groups m))
   unfolding members
   class_members m hm =
@@ -38,7 +38,7 @@ module _ (t groups : ClassTable) (finer : IsFiner groups t) where
       both_is (of_group n) (of_class n) (λ e. eq-eqb (class_at groups n) (class_at groups m) (finer.together n m (range_below (length groups.class_of) i d l) (omega (arith, hm, size)) (eqb-true (class_at t n) (class_at t m) e)))) in
       ap (λ (k : ℕ). filter of_class (range_with_len 0 k)) size ∙ sym (filter-filter of_group of_class all ∙ same)
 
-  -- a group with a number of another class than a member has more numbers than the member's class
+  -- A group with a number of another class has more numbers than the class of a member.
   more_members : (m other : ℕ) → m < length t.class_of → other < length t.class_of → class_at groups other ≡ class_at groups m → class_at t other ≢ class_at t m → length (members t (class_at t m)) < length (members groups (class_at groups m))
   more_members m other hm ho same differ =
       let of_class : ℕ → Bool = λ n. eqb (class_at t n) (class_at t m) in
@@ -81,6 +81,6 @@ module _ (t groups : ClassTable) (finer : IsFiner groups t) where
             Contains-filter test range (class_at t a) (range-contains (class_count t) (class_at t a) (whole.classes a ha)) (ap (exceeds_class t groups) same ∙ group_mixed a b ha hb differ together);
       }
 
--- the list serves where more numbers are told apart
+-- The list stays right if more numbers are distinguished.
 pub still_mixed : (t old new : ClassTable) (listed : List ℕ) → ((a b : ℕ) → a < length t.class_of → b < length t.class_of → class_at new a ≡ class_at new b → class_at old a ≡ class_at old b) → ListsMixed t old listed → ListsMixed t new listed
 still_mixed t old new listed before is = record { within = is.within; ascend = is.ascend; all = λ a b ha hb differ together. is.all a b ha hb differ (before a b ha hb together) }

@@ -1,4 +1,4 @@
--- A pattern remains exactly where two classes are alike to those before it and to those that remain behind it.
+-- A pattern remains exactly if two classes answer alike to the patterns before it and to those that remain after it.
 use Rattle.std.proofs.Common.{◌≡◌, ◌≢◌, ◌∙◌, ℕ, ◌+◌, ◌<◌, inl, inr, Bool, List, [], ◌∷◌, ◌++◌, length, take, drop, get_or, cond, sym, ap, subst, arith}
 use Rattle.std.proofs.lemmas.Bool.{eq-eqb, ne_eqb, cases_eq}
 use Rattle.std.proofs.lemmas.List.{take_more, drop_more, take-append-drop}
@@ -9,7 +9,8 @@ use Rattle.compact_tests.specs.Thinning.{HaveSameAnswers, remaining_from}
 use Rattle.compact_tests.proofs.TableLemmas.{IsCoarser, filled-table, numbers-table, alike, together, fewer_classes, as_many}
 use Rattle.compact_tests.proofs.RemainingLemmas.{Alike, alike_both, alike_first, alike_second, part_alike}
 
--- Two classes of all patterns are together by those before a place, and alike to those that remain behind it.
+-- Two classes of all patterns are one class of the patterns before a place, and answer alike to those that remain after
+-- it.
 pub record IsAlikePair (numbers : ℕ) (all : List Answered) (place a b : ℕ) : Type 0 where
   pub first_in : a < classes_by numbers all
   pub second_in : b < classes_by numbers all
@@ -21,7 +22,7 @@ module _ (numbers : ℕ) (some : 0 < numbers) (all : List Answered) where
   abbrev t : ClassTable
   t = class_table numbers (answered_rows all)
 
-  -- the lowest number of a class
+  -- The lowest number of a class.
   pub lead : (a : ℕ) → a < classes_by numbers all → (representative t a < numbers) × (class_at t (representative t a) ≡ a)
   lead a h =
       let n = (filled-table numbers (answered_rows all) some).inhabited a h in
@@ -46,7 +47,7 @@ module _ (numbers : ℕ) (some : 0 < numbers) (all : List Answered) where
         ap (remaining_behind numbers (classes_by numbers all) before) (drop_more all place ([], []) within)
         ∙ ap (λ (first : List Answered). with_needed numbers (classes_by numbers all) before pattern (remaining_behind numbers (classes_by numbers all) first (drop (place + 1) all))) (sym (take_more all place ([], []) within))
 
-    -- numbers that answer alike to all patterns do to the fewer
+    -- Numbers that answer alike to all patterns answer alike to fewer.
     coarser : IsCoarser numbers (answered_rows fewer) (answered_rows all)
     coarser m n hm hn same =
         let first : Alike before m n = alike_first m n before (drop place all) (subst (λ (ps : List Answered). Alike ps m n) (sym (take-append-drop place all)) same) in
@@ -63,7 +64,7 @@ module _ (numbers : ℕ) (some : 0 < numbers) (all : List Answered) where
         let size = numbers-table numbers (answered_rows all) in
         pair.apart (sym la.1 ∙ ((same.together (representative t a) (representative t b) (omega (arith, la.0, size)) (omega (arith, lb.0, size))).0 one ∙ lb.1))
 
-    -- where there is such a pair the pattern remains
+    -- If there is such a pair, the pattern remains.
     pub pair_remains : (a b : ℕ) → IsAlikePair numbers all place a b → remaining_from numbers all place ≡ pattern ∷ behind
     pair_remains a b pair = step ∙ ap (λ (b : Bool). cond b behind (pattern ∷ behind)) (ne_eqb (classes_by numbers fewer) (classes_by numbers all) (pair_fewer a b pair))
 
@@ -96,7 +97,7 @@ module _ (numbers : ℕ) (some : 0 < numbers) (all : List Answered) where
                 }))
           ]
 
-      -- where there is none it is left out
+      -- If there is none, the pattern is left out.
       pub none_remains : remaining_from numbers all place ≡ behind
       none_remains =
           let count : classes_by numbers fewer ≡ classes_by numbers all =

@@ -47,7 +47,7 @@ module _ (n : AnswerNumbers) (lane : ℕ) (groups : ClassTable) (listed : List �
           ];
         }
 
-  -- a number that is alone in its group has no number in its row
+  -- A number that is alone in its group needs no number in its row.
   pub rows_passed : (rows : List (List Bool)) (done : ℕ) → has_two groups (class_at groups (get_or listed done 0)) ≡ false → AreNumberRows n lane groups listed count done rows → AreNumberRows n lane groups listed count (done + 1) rows
   rows_passed rows done alone so_far = record {
     count_is = so_far.count_is;
@@ -58,7 +58,7 @@ module _ (n : AnswerNumbers) (lane : ℕ) (groups : ClassTable) (listed : List �
     ];
   }
 
--- two rows with the numbers of the answers at two places
+-- Two rows with the numbers of the answers at two places.
 module _ (n : AnswerNumbers) (lane : ℕ) (rows answers : List (List Bool)) (given : AreLeadAnswers n.circuit n.leads (vector_in n lane) answers) (a b p q : ℕ) (row_a : IsNumberRow n lane rows a p) (row_b : IsNumberRow n lane rows b q)
     (wide_a : length (row_at rows a) ≡ 32) (wide_b : length (row_at rows b) ≡ 32) where
   same_numbers : row_at rows a ≡ row_at rows b → row_a.number ≡ row_b.number
@@ -78,11 +78,11 @@ module _ (n : AnswerNumbers) (lane : ℕ) (rows answers : List (List Bool)) (giv
       ext_get_or false (row_at rows a) (row_at rows b) (omega (arith, wide_a, wide_b))
       (λ k h. let l : k < 32 = omega (arith, h, wide_a) in row_a.bits k l ∙ (ap (λ (m : ℕ). bit_of m k) number ∙ sym (row_b.bits k l)))
 
-  -- whether the rows are the same is decided by the numbers
+  -- Whether the rows are the same depends only on the numbers.
   pub split_or_same : (row_at rows a ≢ row_at rows b → ⊥) → row_at answers p ≡ row_at answers q
   split_or_same never = elim (cases_eq row_a.number row_b.number) [ inl e ↦ answers_of e | inr ne ↦ absurd (never (λ e. ne (same_numbers e))) ]
 
--- numbers that are together before and after a cut
+-- Numbers that are together before and after a cut.
 module _ (old new : ClassTable) (rows : List (List Bool)) (added : ℕ) (whole : IsWhole old) (cut : HasCut old new rows added) where
   pub same_before : (a b : ℕ) → a < length old.class_of → b < length old.class_of → class_at new a ≡ class_at new b → (class_at old a ≡ class_at old b) × (0 < added → row_at rows a ≡ row_at rows b)
   same_before a b ha hb same = elim (cases_lt 0 added) [
@@ -104,7 +104,7 @@ module _ (old new : ClassTable) (rows : List (List Bool)) (added : ℕ) (whole :
     | inr none ↦ let e = cut.unchanged (omega (arith, none)) in ap (λ (t : ClassTable). class_at t a) e ∙ (before ∙ sym (ap (λ (t : ClassTable). class_at t b) e))
   ]
 
-  -- where nothing was cut, numbers that are together have the same row
+  -- If nothing was cut, numbers that are together have the same row.
   pub unsplit : added ≤ 0 → (a b : ℕ) → a < length old.class_of → b < length old.class_of → class_at old a ≡ class_at old b → row_at rows a ≢ row_at rows b → ⊥
   unsplit none a b ha hb was differ = absurd (omega (arith, none, cut.splits.1 (record { first = a; second = b; first_below = ha; second_below = hb; together = was; differ = differ })))
 

@@ -29,7 +29,7 @@ module _ (m n : ℕ) where
   pub alike_second : (first second : List Answered) → Alike (first ++ second) m n → Alike second m n
   alike_second first second both = All-right SameAnswer (answered_rows first) (answered_rows second) (subst (All SameAnswer) (map-append (λ (p : Answered). p.1) first second) both)
 
-  -- numbers that answer alike to patterns answer alike where one is left out
+  -- Numbers that answer alike to all patterns answer alike if one pattern is left out.
   alike_without : (before : List Answered) (pattern : Answered) (behind : List Answered) → Alike ((before ++ pattern ∷ []) ++ behind) m n → Alike (before ++ behind) m n
   alike_without before pattern behind all =
       alike_both before behind (alike_first before (pattern ∷ []) (alike_first (before ++ pattern ∷ []) behind all)) (alike_second (before ++ pattern ∷ []) behind all)
@@ -40,7 +40,7 @@ below_other a b le other = elim (cases_lt a b) [ inl lt ↦ lt | inr ge ↦ absu
 -- ---- the patterns that remain
 
 module _ (numbers : ℕ) (some : 0 < numbers) where
-  -- one pattern less gives no more classes
+  -- One pattern less gives no more classes.
   no_more : (before : List Answered) (pattern : Answered) (behind : List Answered) → classes_by numbers (before ++ behind) ≤ classes_by numbers ((before ++ pattern ∷ []) ++ behind)
   no_more before pattern behind =
       fewer_classes numbers (answered_rows (before ++ behind)) (answered_rows ((before ++ pattern ∷ []) ++ behind)) (λ m n hm hn. alike_without m n before pattern behind) some
@@ -56,13 +56,13 @@ module _ (numbers : ℕ) (some : 0 < numbers) where
         by true e = eqb-true (classes_by numbers (before ++ behind)) classes e
         by false e = sym (again before pattern behind) ∙ later
 
-    -- what remains behind some patterns makes with them as many classes
+    -- What remains after some patterns makes with them as many classes.
     remaining_make : (before patterns : List Answered) → classes_by numbers (before ++ patterns) ≡ classes → classes_by numbers (before ++ remaining_behind numbers classes before patterns) ≡ classes
     remaining_make before [] count = count
     remaining_make before (pattern ∷ patterns) count =
         make_more before pattern (remaining_behind numbers classes (before ++ pattern ∷ []) patterns) (remaining_make (before ++ pattern ∷ []) patterns (again before pattern patterns ∙ count))
 
-    -- Without any one of them there are fewer classes.
+    -- Leaving out any one of them gives fewer classes.
     abbrev AreNeeded : List Answered → List Answered → Type 0
     AreNeeded before patterns = (at : ℕ) → at < length patterns → classes_by numbers (before ++ remove patterns at) < classes
 
@@ -83,7 +83,7 @@ module _ (numbers : ℕ) (some : 0 < numbers) where
         let on = again before pattern patterns ∙ count in
         needed_more before pattern (remaining_behind numbers classes (before ++ pattern ∷ []) patterns) (remaining_make (before ++ pattern ∷ []) patterns on) (remaining_needed (before ++ pattern ∷ []) patterns on)
 
-    -- where all are needed, all remain
+    -- If all are needed, all remain.
     needed_remain : (before patterns : List Answered) → AreNeeded before patterns → remaining_behind numbers classes before patterns ≡ patterns
     needed_remain before [] needed = refl
     needed_remain before (pattern ∷ patterns) needed =
@@ -108,7 +108,7 @@ module _ (numbers : ℕ) (patterns : List Answered) (some : 0 < numbers) where
   unfolding remaining
   remaining_remain = needed_remain numbers some (classes_by numbers (remaining numbers patterns)) [] (remaining numbers patterns) remaining_are_needed
 
--- numbers that answer alike to all answer alike to those that remain
+-- Numbers that answer alike to all patterns answer alike to those that remain.
 pub part_alike : (numbers classes : ℕ) (m n : ℕ) (before patterns : List Answered) → Alike patterns m n → Alike (remaining_behind numbers classes before patterns) m n
 part_alike numbers classes m n before [] all = all
 part_alike numbers classes m n before (pattern ∷ patterns) all =

@@ -76,7 +76,7 @@ module _ (group earlier : List ℕ) where
 -- ---- groups of a table
 
 module _ (groups : ClassTable) (earlier : List ℕ) (long : length groups.class_of ≡ length earlier) where
-  -- numbers of a group that have one class
+  -- Numbers of a group that have one class.
   pub repeat_shares : (group : ℕ) → HasRepeat (members groups group) earlier → ShareEarlier groups earlier
   repeat_shares group r =
       let ms = members groups group in
@@ -84,7 +84,7 @@ module _ (groups : ClassTable) (earlier : List ℕ) (long : length groups.class_
       let b = members-All groups group r.second 0 r.within in
       record { first = get_or ms r.first 0; second = get_or ms r.second 0; order = members_ascend groups group r.first r.second 0 r.order r.within; within = omega (arith, b.0, long); together = a.1 ∙ sym b.1; same = r.same }
 
-  -- and two that share one are of a group in which it comes again
+  -- Two numbers of a group that have one class make it repeated in that group.
   pub share_repeats : (s : ShareEarlier groups earlier) → HasRepeat (members groups (class_at groups s.first)) earlier
   share_repeats s =
       let group = class_at groups s.first in

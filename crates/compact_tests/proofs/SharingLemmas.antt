@@ -27,7 +27,7 @@ fails_more p n old new so_far is same = same ∙ (so_far ∙ sym (filter-range_m
 -- ---- numbers that aren't alone
 
 module _ (groups : ClassTable) where
-  -- the group of a number that isn't alone in it
+  -- The group of a number that isn't alone in it.
   pub group_shared : (a b : ℕ) → a < length groups.class_of → b < length groups.class_of → a ≢ b → class_at groups a ≡ class_at groups b → has_two groups (class_at groups a) ≡ true
   group_shared a b ha hb other together =
       let ms = members groups (class_at groups a) in
@@ -41,7 +41,7 @@ module _ (groups : ClassTable) where
   shared_contains a b ha hb other together class =
       Contains-filter (has_two groups) (range_with_len 0 (class_count groups)) (class_at groups a) (range-contains (class_count groups) (class_at groups a) class) (group_shared a b ha hb other together)
 
-  -- the numbers that aren't alone in their groups are listed
+  -- The numbers that aren't alone in their groups are listed.
   pub sharing_listed : ListsSharing groups (sharing_numbers groups)
   sharing_listed =
       let test : ℕ → Bool = λ n. has_two groups (class_at groups n) in
@@ -69,7 +69,7 @@ module _ (groups : ClassTable) where
     | inr other ↦ inr (shared_contains m n hm hn other together (whole.classes m hm))
   ]
 
--- the list serves where more numbers are told apart
+-- The list stays right if more numbers are distinguished.
 pub still_listed : (old new : ClassTable) (listed : List ℕ) → length new.class_of ≡ length old.class_of → ((a b : ℕ) → a < length old.class_of → b < length old.class_of → class_at new a ≡ class_at new b → class_at old a ≡ class_at old b)
     → ListsSharing old listed → ListsSharing new listed
 still_listed old new listed size before is = record {

@@ -33,7 +33,7 @@ module _ (c : Circuit) (patterns : List (List Bool)) (t : ClassTable) (all : Lis
   lead_is_lowest : (place : ℕ) → place < length listed → get_or leads place 0 ≡ representative t (get_or listed place 0)
   lead_is_lowest place h = ap (λ (xs : List ℕ). get_or xs place 0) are ∙ get_or-map (representative t) listed place 0 0 h
 
-  -- the vector of a lane is a pattern
+  -- The vector of a lane is a pattern.
   pub numbered_in : (first end lane : ℕ) → first ≤ end → end ≤ length patterns → lane < end - first → IsNumbered (answer_numbers_with c leads (Some (slice_range patterns first end))) lane listed t all (first + lane)
   numbered_in first end lane low within h =
       let k = first + lane in

@@ -13,7 +13,7 @@ use Rattle.class_refine.proofs.Refined.{split_adds, adds_split, count-refined}
 use Rattle.compact_tests.specs.Thinning.{HaveSameAnswers}
 use Rattle.compact_tests.proofs.TableLemmas.{filled-table, numbers-table, IsCoarser, together, fewer_classes}
 
--- a list is what is before a place, what stands there and what is behind it
+-- A list is the elements before a place, the element there and those after it.
 pub parts_at : {X : Type 0} (xs : List X) (k : ℕ) (d : X) → k < length xs → xs ≡ take k xs ++ get_or xs k d ∷ drop (suc k) xs
 parts_at [] k d h = absurd (omega (arith, h))
 parts_at (x ∷ xs) zero d h = refl
@@ -27,7 +27,7 @@ module _ (numbers : ℕ) (some : 0 < numbers) (rows : List (List (List Bool))) (
   abbrev so_far : ClassTable
   so_far = class_table numbers (take k rows)
 
-  -- where a row splits no class of those before it, numbers that are together answer alike to it
+  -- If a row splits no class of those before it, numbers that are together answer alike to it.
   unsplit : length (new_lowest so_far row) ≤ 0 → (m n : ℕ) → m < numbers → n < numbers → class_at so_far m ≡ class_at so_far n → get_or row m [] ≡ get_or row n []
   unsplit none m n hm hn same = by (same_bits (get_or row m []) (get_or row n [])) refl
     where
@@ -46,7 +46,7 @@ module _ (numbers : ℕ) (some : 0 < numbers) (rows : List (List (List Bool))) (
       let here = unsplit none m n hm hn (together m n numbers (take k rows) hm hn front) in
       subst (All SameAnswer) (sym (parts_at rows k [] within)) (All-append SameAnswer (take k rows) (row ∷ drop (suc k) rows) front (All-cons SameAnswer row (drop (suc k) rows) here back))
 
-  -- a row that is needed splits a class
+  -- A needed row splits a class.
   pub adds : 0 < length (new_lowest so_far row)
   adds = elim (cases_lt 0 (length (new_lowest so_far row))) [ inl lt ↦ lt | inr none ↦ absurd (omega (arith, needed, fewer_classes numbers rows (remove rows k) (coarser none) some)) ]
 
@@ -57,11 +57,11 @@ module _ (numbers : ℕ) (some : 0 < numbers) (rows : List (List (List Bool))) (
 abbrev pub AreNeededRows : ℕ → List (List (List Bool)) → Type 0
 AreNeededRows numbers rows = (k : ℕ) → k < length rows → class_count (class_table numbers (remove rows k)) < class_count (class_table numbers rows)
 
--- one row more refines the table
+-- One more row refines the table.
 pub table_more : (numbers : ℕ) (rows : List (List (List Bool))) (k : ℕ) → k < length rows → class_table numbers (take (k + 1) rows) ≡ refined_table (class_table numbers (take k rows)) (get_or rows k [])
 table_more numbers rows k within = ap (class_table numbers) (take_more rows k [] within) ∙ fold-append refined_table (first_table numbers) (take k rows) (get_or rows k [] ∷ [])
 
--- there are fewer rows than classes, where each row is needed
+-- There are fewer rows than classes if each row is needed.
 pub few_rows : (numbers : ℕ) → 0 < numbers → (rows : List (List (List Bool))) → AreNeededRows numbers rows → (k : ℕ) → k ≤ length rows → k < class_count (class_table numbers (take k rows))
 few_rows numbers some rows needed zero h = omega arith
 few_rows numbers some rows needed (suc k) h =

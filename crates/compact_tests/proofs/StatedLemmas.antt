@@ -1,4 +1,4 @@
--- The lines of a text, taken in one after another.
+-- The lines of a text, noted one after another.
 use Rattle.std.proofs.Common.{◌≡◌, ◌∙◌, ℕ, ◌+◌, ◌-◌, ◌<◌, ◌≤◌, inl, inr, Bool, cond, eqb, List, [], ◌∷◌, ◌++◌, length, take, drop, get_or, set, replicate, Option, Some, None, refl, sym, ap, subst, append_assoc, arith}
 use Rattle.std.specs.Prelude.{All, Contains, find, slice_range}
 use Rattle.std.proofs.lemmas.Bool.{cases_lt, cases_eq, eq-eqb, ne_eqb}
@@ -28,7 +28,7 @@ first_once bytes start a b one other = elim (cases_lt a b) [
   | inr over ↦ elim (cases_lt b a) [ inl low ↦ absurd (one.before b other.behind low other.here) | inr under ↦ omega (arith, over, under) ]
 ]
 
--- The line of a record stands behind some bytes.
+-- The line of a record comes after some bytes.
 pub record IsLineAt (bytes : Text) (start : ℕ) (r : Record) : Type 0 where
   pub first : IsFirstFrom bytes start (start + length (spelling r))
   pub line : slice_range bytes start (start + length (spelling r)) ≡ spelling r
@@ -70,11 +70,11 @@ module _ (line : SpellingIsLine) (numbers : ℕ) (before : List Record) (r : Rec
     line = cut_here (text_of before) (spelling r) (text_of more);
   })
 
--- the place behind a record's line
+-- The place after a record's line.
 pub next_place : (before : List Record) (r : Record) → length (text_of (before ++ r ∷ [])) ≡ length (text_of before) + length (spelling r) + 1
 next_place before r = omega (arith, ap length (text_parts before r []), length-append (text_of before) (spelling r ++ 10 ∷ []), length-append (spelling r) (10 ∷ []))
 
--- a range with the byte behind it
+-- A range with the byte after it.
 pub range_longer : (bytes : Text) (start end byte : ℕ) → start ≤ end → end < length bytes → get_or bytes end 0 ≡ byte → slice_range bytes start (end + 1) ≡ slice_range bytes start end ++ byte ∷ []
 range_longer bytes start end byte low inside is =
     let many : end + 1 - start ≡ end - start + 1 = omega (arith, low) in
@@ -83,7 +83,7 @@ range_longer bytes start end byte low inside is =
     ∙ (take_more (drop start bytes) (end - start) 0 (omega (arith, inside, low, length-drop start bytes))
     ∙ ap (λ (b : ℕ). take (end - start) (drop start bytes) ++ b ∷ []) (get_or-drop start bytes (end - start) 0 ∙ (ap (λ (n : ℕ). get_or bytes n 0) place ∙ is)))
 
--- the span of a line that stands before an LF
+-- The span of a line that ends before an LF.
 pub span_of : (bytes : Text) (start end : ℕ) (r : Record) → start ≤ end → end < length bytes → get_or bytes end 0 ≡ 10 → spelling r ≡ slice_range bytes start end → IsSpanOf bytes (record { start = start; end = end + 1 }) r
 span_of bytes start end r low inside feed is = record {
   order = omega (arith, low);
@@ -104,7 +104,7 @@ last_more : (es : List Evidence) (e : Evidence) (n : ℕ) → last_evidence (es 
 last_more es e n = ap (find (λ (x : Evidence). eqb x.member n)) (reverse-append es (e ∷ []))
 
 module _ (bytes : Text) (numbers : ℕ) (before : List Record) (old new : Stated) (is : IsStated bytes numbers before old) where
-  -- evidence more
+  -- One more piece of evidence.
   pub stated_evidence : (e : Evidence) (span : Span) → IsSpanOf bytes span (Same e) → e.member < length old.evidence.items → new.marks.items ≡ old.marks.items → new.evidence.items ≡ set old.evidence.items e.member (Some span)
       → IsStated bytes numbers (before ++ Same e ∷ []) new
   stated_evidence e span line inside marks set_is =
@@ -127,7 +127,7 @@ module _ (bytes : Text) (numbers : ℕ) (before : List Record) (old new : Stated
             ];
       }
 
-  -- a mark more
+  -- One more mark.
   pub stated_member : (number class : ℕ) (mark : Mark) → new.marks.items ≡ old.marks.items ++ mark ∷ [] → new.evidence.items ≡ old.evidence.items → IsStated bytes numbers (before ++ Member number class mark ∷ []) new
   stated_member number class mark marks evidence =
       let known : evidence_in (before ++ Member number class mark ∷ []) ≡ evidence_in before = filter_map-append evidence_of before (Member number class mark ∷ []) ∙ append-nil (evidence_in before) in
@@ -137,7 +137,7 @@ module _ (bytes : Text) (numbers : ℕ) (before : List Record) (old new : Stated
         evidence = subst (λ (es : List Evidence). AreEvidenceLines bytes es new.evidence.items) (sym known) (subst (AreEvidenceLines bytes (evidence_in before)) (sym evidence) is.evidence);
       }
 
-  -- a record that states neither
+  -- A record that states neither.
   pub stated_other : (r : Record) → evidence_in (r ∷ []) ≡ [] → marks_in (r ∷ []) ≡ [] → new.marks.items ≡ old.marks.items → new.evidence.items ≡ old.evidence.items → IsStated bytes numbers (before ++ r ∷ []) new
   stated_other r no_evidence no_mark marks evidence =
       let known : evidence_in (before ++ r ∷ []) ≡ evidence_in before = filter_map-append evidence_of before (r ∷ []) ∙ (ap (λ (es : List Evidence). evidence_in before ++ es) no_evidence ∙ append-nil (evidence_in before)) in
@@ -150,7 +150,7 @@ module _ (bytes : Text) (numbers : ℕ) (before : List Record) (old new : Stated
 
 -- ---- from line to line
 
--- The next line of records that stand behind others.
+-- The next line of records that come after others.
 pub record HasNext (bytes : Text) (numbers start : ℕ) (records : List Record) : Type 0 where
   pub r : Record
   pub readable : IsReadableLine numbers r
@@ -195,6 +195,6 @@ module _ (line : SpellingIsLine) (bytes : Text) (numbers start : ℕ) (records :
   pub all_stated : IsStatedTo bytes numbers start records stated → length bytes ≤ start → IsStated bytes numbers records stated
   all_stated so_far end = all_from so_far.before so_far.rest so_far.parts so_far.place_is end so_far.is
 
--- a record that states nothing of a number
+-- A record that states nothing of a number.
 pub takes_other : (r : Record) (span : Span) (old : Stated) → evidence_in (r ∷ []) ≡ [] → marks_in (r ∷ []) ≡ [] → TakesRecord r span old old
 takes_other r span old none unmarked = record { count = refl; stated = λ bytes numbers before line is. stated_other bytes numbers before old old is r none unmarked refl refl }

@@ -88,7 +88,7 @@ module _ (m n : ℕ) where
 
 -- ---- fewer rows
 
--- a number at another place stays where one is removed
+-- A number at another place stays if one is removed.
 still_there : (xs : List ℕ) (at q x : ℕ) → at < length xs → q < length xs → (q ≡ at → ⊥) → get_or xs q 0 ≡ x → list_any (eqb x) (remove xs at) ≡ true
 still_there xs at q x inside hq other is =
     let size = length-remove xs at inside in
@@ -104,7 +104,7 @@ still_there xs at q x inside hq other is =
     later_place : (at q : ℕ) → (q ≡ at → ⊥) → at ≤ q → at < q
     later_place at q other low = elim (cases_lt at q) [ inl lt ↦ lt | inr le ↦ absurd (other (omega (arith, le, low))) ]
 
--- Numbers that answer alike in the one rows answer alike in the other.
+-- Numbers that answer alike in the rows of one list answer alike in those of the other.
 abbrev pub IsCoarser : ℕ → List (List (List Bool)) → List (List (List Bool)) → Type 0
 IsCoarser numbers fewer rows = (m n : ℕ) → m < numbers → n < numbers → HaveSameAnswers rows m n → HaveSameAnswers fewer m n
 
@@ -118,7 +118,7 @@ module _ (numbers : ℕ) (fewer rows : List (List (List Bool))) (coarser : IsCoa
   stay_together : (m n : ℕ) → m < numbers → n < numbers → class_at fine m ≡ class_at fine n → class_at coarse m ≡ class_at coarse n
   stay_together m n hm hn same = together m n numbers fewer hm hn (coarser m n hm hn (alike m n numbers rows hm hn same))
 
-  -- the class that the members of a class are in, with the fewer rows
+  -- The class that contains the members of a class, with the fewer rows.
   abbrev taken_to : ℕ → ℕ
   taken_to class = class_at coarse (representative fine class)
 
@@ -142,13 +142,13 @@ module _ (numbers : ℕ) (fewer rows : List (List (List Bool))) (coarser : IsCoa
   number_in : (class : ℕ) → class < class_count coarse → (n : ℕ) × (n < numbers) × (class_at coarse n ≡ class)
   number_in class h = let n = (filled-table numbers fewer some).inhabited class h in (n.0, omega (arith, n.1, numbers-table numbers fewer), n.2)
 
-  -- there are no more classes
+  -- Fewer rows don't make more classes.
   pub fewer_classes : class_count coarse ≤ class_count fine
   fewer_classes = rw (sym count_taken) (le-length_from_below all_taken (class_count coarse) (λ class h.
       let n = number_in class h in
       list_any_at (eqb class) all_taken (class_at fine n.0) 0 (omega (arith, count_taken, class_below n.0 n.1)) (eq-eqb class (get_or all_taken (class_at fine n.0) 0) (sym n.2 ∙ sym (taken_at n.0 n.1)))))
 
-  -- where two classes are taken to one, there are fewer
+  -- If two classes become one, there are fewer classes.
   one_less : (m n : ℕ) → m < numbers → n < numbers → class_at coarse m ≡ class_at coarse n → (class_at fine m ≡ class_at fine n → ⊥) → class_count coarse < class_count fine
   one_less m n hm hn same apart =
       let a = class_at fine m in
@@ -163,7 +163,7 @@ module _ (numbers : ℕ) (fewer rows : List (List (List Bool))) (coarser : IsCoa
       ]) in
       omega (arith, few, size, count_taken)
 
-  -- where there are as many classes, they are the same
+  -- If there are as many classes, they are the same.
   pub as_many : class_count coarse ≡ class_count fine → HaveSameClasses fine coarse
   as_many count = record {
     numbers = numbers-table numbers fewer ∙ sym (numbers-table numbers rows);

@@ -1,4 +1,4 @@
--- The parts of a text.
+-- The pieces of a text.
 use Rattle.std.proofs.Common.{◌≡◌, ◌∙◌, ℕ, ◌+◌, ◌<◌, ◌≤◌, Bool, List, [], ◌∷◌, ◌++◌, length, map, take, get_or, Option, Some, None, refl, sym, ap, append_assoc}
 use Rattle.std.specs.Prelude.{filter_map, slice_range}
 use Rattle.std.specs.Option.{option_to_list}
@@ -38,7 +38,7 @@ one_listed (Some y) = refl
 one_mapped : {X Y : Type 0} (f : X → Option Y) (x : X) → filter_map f (x ∷ []) ≡ option_to_list (f x)
 one_mapped f x = one_listed (f x)
 
--- the evidence of one number more
+-- The evidence of one number more.
 pub evidence_more : (t : ClassTable) (evidence : List Evidence) (number : ℕ) (first : Text) {so_far text : Text} → so_far ≡ first ++ text_of (map Same (filter_map (evidence_for t evidence) (range_with_len 0 number)))
     → text ≡ so_far ++ text_of (map Same (option_to_list (evidence_for t evidence number))) → text ≡ first ++ text_of (map Same (filter_map (evidence_for t evidence) (range_with_len 0 (number + 1))))
 evidence_more t evidence number first {so_far} {text} before line =
@@ -50,7 +50,7 @@ evidence_more t evidence number first {so_far} {text} before line =
     ap (λ (es : List Evidence). text_of (map Same es)) more ∙ (ap text_of (map-append Same (filter_map f (range_with_len 0 number)) one) ∙ text-append (map Same (filter_map f (range_with_len 0 number))) (map Same one)) in
     line ∙ ap (λ (bs : Text). bs ++ text_of (map Same one)) before ∙ append_assoc first (text_of (map Same (filter_map f (range_with_len 0 number)))) (text_of (map Same one)) ∙ ap (λ (bs : Text). first ++ bs) (sym lines)
 
--- the line of one pattern more
+-- The line of one pattern more.
 pub pattern_more : (vectors : List (List Bool)) (k : ℕ) (v : List Bool) → k < length vectors → v ≡ get_or vectors k [] → {so_far text : Text} → so_far ≡ text_of (map Pattern (take k vectors)) → text ≡ so_far ++ text_of (Pattern v ∷ []) → text ≡ text_of (map Pattern (take (k + 1) vectors))
 pattern_more vectors k v h is {so_far} {text} before line =
     let more : take (k + 1) vectors ≡ take k vectors ++ v ∷ [] = take_more vectors k [] h ∙ ap (λ (x : List Bool). take k vectors ++ x ∷ []) (sym is) in

@@ -98,7 +98,7 @@ vectors_without (p ∷ patterns) (suc at) = ap (λ (vs : List (List Bool)). p.0 
 -- ---- tables
 
 module _ (c : Circuit) (circuit : IsCircuit c) where
-  -- the table of answered patterns
+  -- The table of answered patterns.
   pub table_by : (patterns : List Answered) → AreAnswered c patterns → (t : ClassTable) → IsTableOf c (answered_vectors patterns) t → t ≡ class_table (fault_count c) (answered_rows patterns)
   table_by patterns a t of = one_table c circuit of (record { rows = answered_rows patterns; answers = answers_of c patterns a; table = refl })
 

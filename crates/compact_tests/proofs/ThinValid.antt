@@ -44,7 +44,7 @@ use Rattle.compact_tests.proofs.EvidenceLines.{IsUsable, AreUsable, AreFront, ma
 
 -- ---- parts of lists
 
--- the items of two lists at a place
+-- The items of two lists at a place.
 zip_item : (classes : List ℕ) (marks : List Mark) (n : ℕ) → n < length classes → n < length marks → get_or (zip classes marks) n (0, mark.Rep) ≡ (get_or classes n 0, get_or marks n mark.Rep)
 zip_item [] marks n low high = absurd (omega (arith, low))
 zip_item (x ∷ classes) [] n low high = absurd (omega (arith, high))
@@ -62,7 +62,7 @@ map_item f (x ∷ xs) zero d = refl
 map_item f (x ∷ xs) (suc n) d = map_item f xs n d
 
 module _ (P : Answered → Type 0) (numbers classes : ℕ) where
-  -- what is true of each pattern is true of each that remains
+  -- What is true of each pattern is true of each that remains.
   part_all : (before patterns : List Answered) → AllByRecursion P patterns → AllByRecursion P (remaining_behind numbers classes before patterns)
   part_all before [] a = tt
   part_all before (pattern ∷ patterns) a = one (remaining_behind numbers classes (before ++ pattern ∷ []) patterns) (part_all (before ++ pattern ∷ []) patterns a.1)
@@ -108,7 +108,7 @@ pattern_widths c records lines before (Class n birth ∷ rest) e = pattern_width
 pattern_widths c records lines before (Member n class m ∷ rest) e = pattern_widths c records lines (before ++ Member n class m ∷ []) rest (e ∙ sym (append_assoc before (Member n class m ∷ []) rest))
 pattern_widths c records lines before (End ∷ rest) e = pattern_widths c records lines (before ++ End ∷ []) rest (e ∙ sym (append_assoc before (End ∷ []) rest))
 
--- the budgets are stated on the first two lines
+-- The budgets are stated on the first two lines.
 early_budgets : (records : List Record) (s p n : ℕ) (b : Budgets) (tail : List Record) → records ≡ Head s p n ∷ Budget b ∷ tail → (before : List Record) (r : Record) (more : List Record) → records ≡ before ++ r ∷ more → 2 ≤ length before → budgets_in before ≡ b
 early_budgets records s p n b tail is [] r more e two = absurd (omega (arith, two))
 early_budgets records s p n b tail is (x ∷ []) r more e two = absurd (omega (arith, two))
@@ -129,7 +129,7 @@ same_leads t u same n h =
     same_from_decides {P = class_at t m ≡ class_at t n} (eqb (class_at t m) (class_at t n)) (eqb (class_at u m) (class_at u n)) (eqb-true (class_at t m) (class_at t n), eq-eqb (class_at t m) (class_at t n))
     ((λ e. (same.together m n inside h).1 (eqb-true (class_at u m) (class_at u n) e)), (λ e. eq-eqb (class_at u m) (class_at u n) ((same.together m n inside h).0 e)))))
 
--- the evidence that gives a mark to a number which isn't a representative
+-- The evidence that gives a mark to a number which isn't a representative.
 record IsMarkedBy (u : ClassTable) (evidence : List Evidence) (n : ℕ) (m : Mark) (e : Evidence) : Type 0 where
   found : find (is_about u n) evidence ≡ Some e
   gives : mark_of e.proof ≡ m
@@ -247,7 +247,7 @@ module _ (c : Circuit) (circuit : IsCircuit c) (records thin : List Record) (rig
         split = needed_splits (fault_count c) (some_number c) (answered_rows left) k within (needed_rows k within);
       }
 
-  -- each pattern that remains splits a class of those before it
+  -- Each pattern that remains splits a class of those before it.
   pub in_turn : SplitInTurn c (answered_vectors left)
   in_turn = record { widths = as_all (λ v. length v ≡ c.sources) (λ (p : Answered). p.0) left left_widths; splits = splits }
 
@@ -276,7 +276,7 @@ module _ (c : Circuit) (circuit : IsCircuit c) (records thin : List Record) (rig
   given n h = subst (λ (rs : List Record). number_mark u (evidence_in rs) n ≡ Some (stated_mark s n)) (sym stated)
       (mark_given c circuit s (subst (AreRightLines c) stated right) u (subst (λ (rs : List Record). IsTableOf c (patterns_in rs) u) stated u_of) n (omega (arith, h, count)))
 
-  -- The evidence of a number can be used, and gives the mark that is stated.
+  -- The evidence of a number can be used, and gives the stated mark.
   record IsMarking (n : ℕ) (e : Evidence) : Type 0 where
     usable : IsUsable c t b evidence n e
     gives : mark_of e.proof ≡ stated_mark s n
@@ -410,7 +410,7 @@ module _ (c : Circuit) (circuit : IsCircuit c) (records thin : List Record) (rig
   unfolding thin_result
   thin_valid = record { lines = thin_right; before = body ++ class_records t.births ++ member_records members; ended = is.thin_is }
 
--- what is left of valid records is valid
+-- What is left of valid records is valid.
 pub left_valid : ValidIsTrue → (c : Circuit) (records thin : List Record) → IsCircuit c → IsValid c records → IsThin c records thin → IsValid c thin
 left_valid law c records thin circuit valid is =
     let told = law c records circuit valid in

@@ -1,4 +1,4 @@
--- One pattern more is gone over.
+-- One more pattern is looked at.
 use Rattle.std.proofs.Common.{◌≡◌, ◌∙◌, ◌⊎◌, ◌↔◌, ℕ, ◌+◌, ◌<◌, inl, inr, Bool, List, [], ◌∷◌, ◌++◌, length, map, take, reverse, get_or, sym, ap, subst, arith}
 use Rattle.std.specs.Prelude.{All, slice_index_or}
 use Rattle.std.proofs.lemmas.Bool.{cases_lt, cases_eq}
@@ -15,13 +15,14 @@ use Rattle.compact_tests.specs.Numbered.{HasParted}
 use Rattle.compact_tests.proofs.EarlierLemmas.{before_pattern}
 use Rattle.compact_tests.proofs.NeededLemmas.{IsAlikePair, lead, pair_remains, none_remains}
 
--- The pattern is needed: two classes of one group share the class that they were before it. The groups are cut by its row.
+-- The pattern is needed: two classes of one group share the class that they were before it. The groups are cut by its
+-- row.
 pub record IsKept (t : ClassTable) (row : List (List Bool)) (pattern : ℕ) (old new : Thinning) : Type 0 where
   pub share : ShareEarlier old.groups new.earlier.items
   pub parted : (a b : ℕ) → a < class_count t → b < class_count t → class_at new.groups a ≡ class_at new.groups b ↔ ((class_at old.groups a ≡ class_at old.groups b) × (slice_index_or row (representative t a) [] ≡ slice_index_or row (representative t b) []))
   pub needed : new.needed.items ≡ old.needed.items ++ pattern ∷ []
 
--- It isn't, and nothing changes.
+-- The pattern isn't needed, and the groups and the needed patterns stay as they are.
 pub record IsLeft (old new : Thinning) : Type 0 where
   pub none : ShareEarlier old.groups new.earlier.items → ⊥
   pub groups : new.groups ≡ old.groups
@@ -39,7 +40,7 @@ module _ (numbers : ℕ) (some : 0 < numbers) (all : List Answered) (place : ℕ
   abbrev pattern : Answered
   pattern = get_or all place ([], [])
 
-  -- the classes before the pattern, from those behind it
+  -- The classes before the pattern, from those after it.
   abbrev AreEarlier : ℕ → List ℕ → Type 0
   AreEarlier k earlier = (class : ℕ) → class < class_count t → get_or earlier class 0 ≡ class_at (class_table numbers (answered_rows (take k all))) (representative t class)
 
@@ -117,7 +118,7 @@ pub thinned_more : (numbers : ℕ) (t : ClassTable) (all : List Answered) (place
 thinned_more numbers t all place old new table within =
     subst (λ (u : ClassTable). IsThinnedTo numbers u all (place + 1) old → IsPassed u (get_or all place ([], [])).1 place old new → IsThinnedTo numbers u all place new) (sym table.is) (at_table numbers table.some all place within old new)
 
--- groups that are cut by the answers of the leads are cut by the pattern's row
+-- Groups that are cut by the answers of the leads are cut by the pattern's row.
 pub parted_by : {n : AnswerNumbers} {lane : ℕ} {listed : List ℕ} {old new : ClassTable} (t : ClassTable) (all : List Answered) (pattern : ℕ) → IsNumbered n lane listed t all pattern → ListsSharing old listed → HasParted n lane listed old new → length old.class_of ≡ class_count t
     → (a b : ℕ) → a < class_count t → b < class_count t → class_at new a ≡ class_at new b ↔ ((class_at old a ≡ class_at old b) × (slice_index_or (get_or all pattern ([], [])).1 (representative t a) [] ≡ slice_index_or (get_or all pattern ([], [])).1 (representative t b) []))
 parted_by {listed = listed} {old = old} {new = new} t all pattern numbered lists parted size a b ha hb =

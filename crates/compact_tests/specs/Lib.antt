@@ -2,7 +2,7 @@ pub mod Remaining
 pub mod ThinResult
 pub mod Compacted
 pub mod Laws
--- What is known on the way
+-- What is known on the way.
 pub mod Earlier
 pub mod Sharing
 pub mod Mixed

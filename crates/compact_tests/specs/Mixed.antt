@@ -1,21 +1,21 @@
--- Groups of numbers of two classes or more, where the numbers of a class are in one group.
+-- Groups of numbers of two classes or more. The numbers of a class are always in one group.
 use Rattle.std.specs.Prelude.{◌≡◌, ◌≢◌, ◌<◌, ℕ, Bool, List, length, filter, nat_lt, All, AllPairs, Contains}
 use Rattle.std.specs.List.{range_with_len}
 use Rattle.net_model.specs.ClassTable.{ClassTable, class_at, class_count, members, representative}
 
--- whether a group has more numbers than the class of its lowest one
+-- Whether a group has more numbers than the class of its lowest one.
 abbrev pub exceeds_class : ClassTable → ClassTable → ℕ → Bool
 exceeds_class classes groups group = nat_lt (length (members classes (class_at classes (representative groups group)))) (length (members groups group))
 
--- the groups that numbers of two classes or more are in, ascending
+-- The groups that contain numbers of two classes or more, ascending.
 abbrev pub mixed_groups : ClassTable → ClassTable → List ℕ
 mixed_groups classes groups = filter (exceeds_class classes groups) (range_with_len 0 (class_count groups))
 
--- the classes that share a group with others, ascending
+-- The classes that share a group with others, ascending.
 abbrev pub mixed_classes : ClassTable → ClassTable → List ℕ
 mixed_classes classes groups = filter (λ class. exceeds_class classes groups (class_at groups (representative classes class))) (range_with_len 0 (class_count classes))
 
--- The list has each class that shares a group with another. It ascends.
+-- The list has each class that shares a group with another, in ascending order, and only classes of the table.
 pub record ListsMixed (classes groups : ClassTable) (listed : List ℕ) : Type 0 where
   pub within : All (λ class. class < class_count classes) listed
   pub ascend : AllPairs (λ x y. x < y) listed

@@ -3,19 +3,19 @@ use Rattle.std.specs.Prelude.{◌≡◌, ◌≢◌, ◌<◌, ℕ, Bool, List, le
 use Rattle.std.specs.List.{range_with_len}
 use Rattle.net_model.specs.ClassTable.{ClassTable, class_at, class_count, members, number_range}
 
--- whether two numbers or more are in a group
+-- Whether a group has two numbers or more.
 abbrev pub has_two : ClassTable → ℕ → Bool
 has_two groups group = nat_lt 1 (length (members groups group))
 
--- the groups of two numbers or more, ascending
+-- The groups of two numbers or more, ascending.
 abbrev pub shared_groups : ClassTable → List ℕ
 shared_groups groups = filter (has_two groups) (range_with_len 0 (class_count groups))
 
--- the numbers that aren't alone in their groups, ascending
+-- The numbers that aren't alone in their groups, ascending.
 abbrev pub sharing_numbers : ClassTable → List ℕ
 sharing_numbers groups = filter (λ number. has_two groups (class_at groups number)) (number_range groups)
 
--- The list has each number that isn't alone in its group. It ascends.
+-- The list has each number that isn't alone in its group, in ascending order, and only numbers of the groups.
 pub record ListsSharing (groups : ClassTable) (listed : List ℕ) : Type 0 where
   pub within : All (λ number. number < length groups.class_of) listed
   pub ascend : AllPairs (λ x y. x < y) listed

@@ -17,17 +17,17 @@ pub record IsAnswered (c : Circuit) (patterns : List (List Bool)) (t : ClassTabl
   pub answers : AreAnswerRows c patterns (answered_rows all)
   pub table : t ≡ class_table (fault_count c) (answered_rows all)
 
--- Each pattern has a bit for each source, and there are such answers.
+-- Each pattern has a bit for each source, and the table is that of the answers to the patterns.
 pub record AreAnswersOf (c : Circuit) (patterns : List (List Bool)) (t : ClassTable) : Type 0 where
   pub widths : All (λ v. length v ≡ c.sources) patterns
   pub all : List Answered
   pub answered : IsAnswered c patterns t all
 
--- two numbers answer alike to patterns with these rows of answers
+-- Two numbers answer alike to the patterns with these rows of answers.
 abbrev pub HaveSameAnswers : List (List (List Bool)) → ℕ → ℕ → Type 0
 HaveSameAnswers rows m n = All (λ row. slice_index_or row m [] ≡ slice_index_or row n []) rows
 
--- the patterns at these places
+-- The patterns at these places.
 abbrev pub patterns_at : List Answered → List ℕ → List Answered
 patterns_at all places = map (λ place. slice_index_or all place ([], [])) places
 
@@ -36,12 +36,13 @@ pub record AreRemainingPlaces (c : Circuit) (patterns : List (List Bool)) (t : C
   pub within : All (λ place. place < length patterns) places
   pub remain : (all : List Answered) → IsAnswered c patterns t all → patterns_at all places ≡ remaining (fault_count c) all
 
--- what remains of the patterns from a place on
+-- What remains of the patterns from a place to the end.
 abbrev pub remaining_from : ℕ → List Answered → ℕ → List Answered
 remaining_from numbers all place = remaining_behind numbers (classes_by numbers all) (take place all) (drop place all)
 
--- The classes are those of the table, of which there are some. The lists have a place for each class, and the classes in them are known.
--- The groups are of as many numbers, and those of two or more are listed. No mark is set.
+-- The classes are those of the table, which has at least one. There is an earlier class and a mark for each class, and
+-- the earlier classes are classes of the table. The groups are groups of the classes, and those of two or more are
+-- listed. No mark is set.
 pub record IsThinning (t : ClassTable) (thinning : Thinning) : Type 0 where
   pub classes : thinning.classes.now ≡ t
   pub some : 0 < class_count t
@@ -53,17 +54,17 @@ pub record IsThinning (t : ClassTable) (thinning : Thinning) : Type 0 where
   pub marks : length thinning.marks.items ≡ class_count t
   pub unmarked : NoneIsMarked thinning.marks.items
 
--- The patterns from a place on were gone over, with the classes of so many numbers. The places that were found needed are such of patterns,
--- and the patterns there, in order, are those that remain of them.
+-- The patterns starting at `place` were looked at, for `numbers` numbers. The needed places are places of patterns, and
+-- the patterns there, in order, are those that remain of the patterns that were looked at.
 pub record IsThinnedTo (numbers : ℕ) (t : ClassTable) (all : List Answered) (place : ℕ) (thinning : Thinning) : Type 0 where
-  -- The classes before them are those of the patterns before them.
+  -- The earlier classes are those of the patterns before `place`.
   pub earlier : (class : ℕ) → class < class_count t → slice_index thinning.earlier.items class ≡ class_at (class_table numbers (answered_rows (take place all))) (representative t class)
-  -- Two classes are in one group where they answer alike to those that remain of them.
+  -- Two classes are in one group exactly if they answer alike to the patterns that remain of those looked at.
   pub groups : (a b : ℕ) → a < class_count t → b < class_count t → class_at thinning.groups a ≡ class_at thinning.groups b ↔ HaveSameAnswers (answered_rows (remaining_from numbers all place)) (representative t a) (representative t b)
   pub places : All (λ place. place < length all) thinning.needed.items
   pub needed : patterns_at all (reverse thinning.needed.items) ≡ remaining_from numbers all place
 
--- There are some numbers, so many, and the table is that of them and of all patterns.
+-- There is at least one number, and the table is that of `numbers` numbers and of all patterns.
 pub record IsTableOfAll (numbers : ℕ) (t : ClassTable) (all : List Answered) : Type 0 where
   pub some : 0 < numbers
   pub is : t ≡ class_table numbers (answered_rows all)
@@ -75,11 +76,12 @@ pub record IsNumbered (n : AnswerNumbers) (lane : ℕ) (listed : List ℕ) (t : 
   pub are : AreLeadAnswers n.circuit n.leads (vector_in n lane) answers
   pub own : (place : ℕ) → place < length listed → slice_index_or answers place [] ≡ slice_index_or (slice_index_or all pattern ([], [])).1 (representative t (slice_index listed place)) []
 
--- That is so of each pattern of a range.
+-- The leads answer to the vector of each of the first `count` lanes as `IsNumbered` says, for the patterns starting at
+-- `first`.
 abbrev pub AreLanesNumbered : AnswerNumbers → List ℕ → ClassTable → List Answered → ℕ → ℕ → Type 0
 AreLanesNumbered n listed t all first count = (lane : ℕ) → lane < count → IsNumbered n lane listed t all (first + lane)
 
--- The vectors are the patterns from a place on, so many as they are.
+-- The vectors are the patterns starting at `first`.
 pub record IsBlockOf (patterns : List (List Bool)) (first : ℕ) (vectors : List (List Bool)) : Type 0 where
   pub within : first + length vectors ≤ length patterns
   pub are : vectors ≡ slice_range patterns first (first + length vectors)

@@ -1,4 +1,4 @@
-//! Test compaction.
+//! Compaction of a valid result: `compact`, and `compact_subject` for a subject that is lent.
 
 ghost use Rattle.std.specs.Prelude.{◌≡◌, IfOk};
 ghost use Rattle.net_model.specs.FaultList.{faults as faults_of};
@@ -17,8 +17,8 @@ use net_model::Circuit;
 use result_file::{Checked, Summary, valid_is_true};
 use std::alloc::{AllocError, Global};
 
-/// What is left of a valid result where the patterns are left out that its classes don't need. `checked` is what the check
-/// of the bytes answers.
+/// Returns what is left of a valid result without the patterns that its classes don't need. `checked` is what the check
+/// of `bytes` returned. Returns an error only if memory is missing.
 pub fn compact(
     alloc: Global,
     circuit: &Circuit,
@@ -32,7 +32,8 @@ pub fn compact(
     compact_subject(alloc, &subject, checked, bytes)
 }
 
-/// What is left of a valid result of a subject's circuit, as `compact` answers it for a circuit whose faults aren't listed yet.
+/// Returns what is left of a valid result of the circuit of `subject`, as `compact` does for a circuit whose faults
+/// aren't listed yet. Returns an error only if memory is missing.
 pub fn compact_subject(
     alloc: Global,
     subject: &Subject,
@@ -48,7 +49,8 @@ pub fn compact_subject(
     thin_with(alloc, circuit, faults, checked, bytes, needed.as_slice())
 }
 
-// What is left where these patterns remain, of the circuit with this list of its faults.
+// Returns what is left of a result if the patterns at the places `needed` remain. `faults` is the list of the circuit's
+// faults.
 fn thin_with(
     alloc: Global,
     circuit: &Circuit,

@@ -1,4 +1,4 @@
-//! The classes as they were before a pattern.
+//! The classes as they were before a pattern, and whether two classes of one group were one class.
 
 ghost use Rattle.std.specs.Prelude.{◌≡◌, ◌↔◌, ◌<◌, false, length, map, All, IsTrue};
 ghost use Rattle.class_refine.specs.Fields.{IsWhole};
@@ -8,7 +8,7 @@ ghost use Rattle.compact_tests.specs.Earlier.{class_before, NoneIsMarked, AreMar
 
 use class_refine::Classes;
 
-/// Puts in place of each class the one that it was before a pattern.
+/// Replaces each class in `earlier` by the class that it was before `pattern`.
 pub(crate) fn step_back(earlier: &mut [u32], classes: &Classes, pattern: usize)
     requires { All (λ class. class < class_count classes.now) earlier.old }
     ensures earlier { earlier.new ≡ map (class_before classes.now.births pattern) earlier.old }
@@ -19,7 +19,7 @@ pub(crate) fn step_back(earlier: &mut [u32], classes: &Classes, pattern: usize)
     }
 }
 
-// The class that a class was before a pattern: its parent where the pattern cut it off.
+// Returns the class that `class` was before `pattern`: its parent if the pattern cut it off, else itself.
 fn before(classes: &Classes, class: u32, pattern: usize) -> u32
     requires { class < class_count classes.now }
     ensures class { result ≡ class_before classes.now.births pattern class }
@@ -31,8 +31,8 @@ fn before(classes: &Classes, class: u32, pattern: usize) -> u32
     }
 }
 
-/// Whether two numbers of one group have the same class in the list. `shared` are the groups of two numbers or more. No mark
-/// is set before and after.
+/// Returns whether two numbers of one group have the same class in `earlier`. `shared` are the groups of two numbers or
+/// more. No mark is set before and after the call.
 pub(crate) fn share_earlier(
     groups: &Classes,
     shared: &[u32],
@@ -55,7 +55,7 @@ pub(crate) fn share_earlier(
     false
 }
 
-// Whether two of a group's numbers have the same class in the list. No mark is set before and after.
+// Returns whether two numbers of `group` have the same class in `earlier`. No mark is set before and after the call.
 fn repeats(group: &[u32], earlier: &[u32], marks: &mut [bool]) -> bool
     requires group { All (λ number. number < length earlier.now) group.now }
     requires classes { All (λ class. class < length marks.old) earlier.now }
@@ -68,7 +68,7 @@ fn repeats(group: &[u32], earlier: &[u32], marks: &mut [bool]) -> bool
     again
 }
 
-// Marks the classes that a group's numbers have in the list, and says whether one comes again.
+// Marks the classes that the numbers of `group` have in `earlier`, and returns whether one of them is repeated.
 fn mark(group: &[u32], earlier: &[u32], marks: &mut [bool]) -> bool
     requires group { All (λ number. number < length earlier.now) group.now }
     requires classes { All (λ class. class < length marks.old) earlier.now }
@@ -85,7 +85,7 @@ fn mark(group: &[u32], earlier: &[u32], marks: &mut [bool]) -> bool
     again
 }
 
-// Takes the marks of these classes away.
+// Clears the marks of the classes that the numbers of `group` have in `earlier`.
 fn unmark(group: &[u32], earlier: &[u32], marks: &mut [bool])
     requires group { All (λ number. number < length earlier.now) group.now }
     requires classes { All (λ class. class < length marks.old) earlier.now }

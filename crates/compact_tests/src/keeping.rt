@@ -1,4 +1,4 @@
-//! The classes of the patterns that remain.
+//! The classes of the patterns that remain, kept from the first to the last, a block at a time.
 
 ghost use Rattle.std.specs.Prelude.{◌≡◌, ◌<◌, ◌≤◌, ◌+◌, ℕ, Bool, List, All, length, slice_range, IfOk, OnOk};
 ghost use Rattle.net_model.specs.FaultList.{faults as faults_of, fault_count};
@@ -21,8 +21,8 @@ use net_model::{AnswerRows, Circuit, Vector};
 use std::alloc::{AllocError, Global};
 use word_sim::{Block, LANES};
 
-/// The classes that the patterns at these places tell apart, where each splits a class of those before it. `classes` are those of
-/// all patterns, and `faults` is the list of the circuit's faults.
+/// Returns the classes of the patterns at these places. Each of them must split a class of those before it. `classes`
+/// are those of all patterns, and `faults` is the list of the circuit's faults.
 pub(crate) fn classes_at(
     alloc: Global,
     circuit: &Circuit,
@@ -49,7 +49,7 @@ pub(crate) fn classes_at(
     Ok(keeping.into_kept())
 }
 
-// Fills a block with the patterns at the places in a range.
+// Fills the block with the patterns at the places in the range from `first` up to `end`.
 fn fill_from(block: &mut Block, patterns: &[Vector], places: &[usize], first: usize, end: usize)
     requires widths { All (λ v. length v ≡ block.old.sources) patterns.now }
     requires places { All (λ place. place < length patterns.now) places.now }
@@ -66,15 +66,15 @@ fn fill_from(block: &mut Block, patterns: &[Vector], places: &[usize], first: us
 
 /// The classes of the patterns that are kept so far.
 pub(crate) struct Keeping<'a> {
-    // The classes by all patterns.
+    // The classes of all patterns.
     pub(crate) classes: &'a Classes,
     pub(crate) kept: Classes,
-    // For each number what it answers to the pattern kept last, by number of the answer. The row of one whose class needn't be
-    // told from others any more is left as it is.
+    // For each number the number of its answer to the pattern kept last. A row stays as it is if the class of its
+    // number is already distinguished from all others.
     pub(crate) rows: AnswerRows,
 }
 
-// Written out, it is one step in the proof of each function that lets it go.
+// Written by hand so that a drop of a `Keeping` is one step in the proof of each function that drops one.
 impl Drop for Keeping<'_> {
     fn drop(self) {
         let Keeping {
@@ -86,7 +86,7 @@ impl Drop for Keeping<'_> {
 }
 
 impl<'a> Keeping<'a> {
-    // Before the first pattern, of so many numbers.
+    // Returns the classes before the first pattern, for the given number of numbers.
     fn new(alloc: Global, classes: &'a Classes, numbers: u32) -> Result<Keeping<'a>, AllocError>
         requires some { 0 < numbers }
         requires numbers { numbers ≡ length classes.now.class_of }
@@ -102,7 +102,7 @@ impl<'a> Keeping<'a> {
         })
     }
 
-    // Keeps the patterns of a block. Only classes that aren't told apart from all others are simulated.
+    // Keeps the patterns of a block. Only classes that aren't distinguished from all others are simulated.
     fn keep_block(
         &mut self,
         alloc: Global,
@@ -126,7 +126,7 @@ impl<'a> Keeping<'a> {
         Ok(())
     }
 
-    // Keeps the patterns of the lanes of a block, so many. `listed` are the classes of the leads.
+    // Keeps the patterns of the first `count` lanes of a block. `listed` are the classes of the leads.
     fn keep_lanes(
         &mut self,
         alloc: Global,
@@ -148,7 +148,7 @@ impl<'a> Keeping<'a> {
         Ok(())
     }
 
-    // Keeps a pattern, of which the vector is that of a lane.
+    // Keeps the pattern whose vector is in the lane.
     fn keep(
         &mut self,
         alloc: Global,

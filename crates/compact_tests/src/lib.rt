@@ -1,4 +1,4 @@
-//! Test compaction: the patterns of a result that its classes don't need are left out.
+//! Test compaction: drops the patterns of a result that its classes don't need.
 #![tactic(auto)]
 
 mod compacting;

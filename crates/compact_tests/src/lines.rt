@@ -1,4 +1,4 @@
-//! What the lines of a result state of its numbers: their marks, and where the last evidence of each stands.
+//! What the lines of a result state of its numbers: their marks, and the place of the last evidence that names each.
 
 ghost use Rattle.std.specs.Prelude.{◌≡◌, ◌<◌, ◌≤◌, ℕ, List, [], ◌∷◌, length, slice_index, slice_range, All, IfOk, OnOk};
 ghost use Rattle.result_records.specs.Spelling.{spelling};
@@ -12,21 +12,21 @@ use std::alloc::{AllocError, Global};
 
 const LF: u8 = b'\n';
 
-/// The mark of each number, and the last line of evidence that names it, if one does.
+/// The mark of each number, and the last line of evidence that names it, if there is one.
 #[derive(Drop)]
 pub(crate) struct Stated {
     pub(crate) marks: Vec<Mark>,
     pub(crate) evidence: Vec<Option<Span>>,
 }
 
-/// A line of the text with its LF, from the first byte up to the end.
+/// A line of the text with its LF, from the first byte up to `end`.
 #[derive(Clone, Copy)]
 pub(crate) struct Span {
     pub(crate) start: usize,
     pub(crate) end: usize,
 }
 
-/// What the lines of a text state of so many numbers.
+/// Returns what the lines of a text state of `numbers` numbers.
 pub(crate) fn read_stated(alloc: Global, bytes: &[u8], numbers: u32) -> Result<Stated, AllocError>
     requires { (records : List Record) × IsReadable bytes.now numbers records }
     ensures { IfOk result (λ stated. (records : List Record) → IsReadable bytes.now numbers records → IsStated bytes.now numbers records stated) }
@@ -45,7 +45,7 @@ pub(crate) fn read_stated(alloc: Global, bytes: &[u8], numbers: u32) -> Result<S
     Ok(stated)
 }
 
-// The place of the first LF from a place on.
+// Returns the place of the first LF at or after `start`.
 fn line_end(bytes: &[u8], start: usize) -> usize
     requires { (end : ℕ) × IsFirstFrom bytes.now start end }
     ensures { IsFirstFrom bytes.now start result }
@@ -58,7 +58,7 @@ fn line_end(bytes: &[u8], start: usize) -> usize
 }
 
 impl Stated {
-    // Takes a line in, which ends before its LF.
+    // Notes the line from `start` up to its LF at `end`.
     fn note(
         &mut self,
         alloc: Global,
@@ -85,7 +85,7 @@ impl Stated {
         self.take(r, line)
     }
 
-    // Takes a record in, of which this is the line.
+    // Notes a record and the place of its line.
     fn take(&mut self, r: Record, line: Span) -> Result<(), AllocError>
         requires { All (λ e. e.member < length self.old.evidence.items) (evidence_in (r ∷ [])) }
         ensures { OnOk result (TakesRecord r line self.old self.new) }

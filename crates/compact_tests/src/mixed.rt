@@ -1,4 +1,4 @@
-//! Groups of numbers of two classes or more, where the numbers of a class are in one group.
+//! Groups of numbers of two classes or more. The numbers of a class are always in one group.
 
 ghost use Rattle.std.specs.Prelude.{◌≡◌, ◌<◌, ◌^◌, length, IfOk};
 ghost use Rattle.net_model.specs.ClassTable.{class_count};
@@ -8,7 +8,7 @@ ghost use Rattle.compact_tests.specs.Mixed.{exceeds_class, mixed_groups as all_m
 use class_refine::Classes;
 use std::alloc::{AllocError, Global};
 
-/// The groups that numbers of two classes or more are in, ascending.
+/// Returns the groups that contain numbers of two classes or more, ascending.
 pub(crate) fn mixed_groups(
     alloc: Global,
     classes: &Classes,
@@ -27,7 +27,7 @@ pub(crate) fn mixed_groups(
     Ok(mixed)
 }
 
-/// The classes that share a group with others, ascending.
+/// Returns the classes that share a group with others, ascending.
 pub(crate) fn mixed_classes(
     alloc: Global,
     classes: &Classes,
@@ -51,7 +51,7 @@ pub(crate) fn mixed_classes(
     Ok(mixed)
 }
 
-// Whether numbers of two classes or more are in a group.
+// Returns whether the group contains numbers of two classes or more.
 fn is_mixed(classes: &Classes, groups: &Classes, group: u32) -> bool
     requires numbers { length groups.now.class_of ≡ length classes.now.class_of }
     requires group { group < class_count groups.now }

@@ -1,4 +1,5 @@
-//! The numbers of the answers to a vector, as rows of bits.
+//! The numbers of the answers to a vector as rows of bits: those of classes, and those of the members of classes.
+//! Groups are cut by them.
 
 ghost use Rattle.std.specs.Prelude.{◌≡◌, ◌<◌, ℕ, length, All, AllPairs, IfOk, OnOk};
 ghost use Rattle.net_model.specs.Rows.{row_at};
@@ -14,11 +15,12 @@ use class_refine::Classes;
 use net_model::AnswerRows;
 use std::alloc::{AllocError, Global};
 
-/// As many bits as a number has.
+/// The number of bits of an answer's number.
 pub(crate) const WIDTH: usize = 32;
 
-/// Cuts each group by what the leads answer to the vector of a lane. `listed` are the leads' numbers in the groups, by place,
-/// among them each that isn't alone in its group. `shared` are the groups of two numbers or more, and there are so many numbers.
+/// Cuts each group by the answers of the leads to the vector of a lane. `listed` are the numbers that the leads have in
+/// the groups, by place, among them each number that isn't alone in its group. `shared` are the groups of two numbers
+/// or more, and `count` is the count of all numbers.
 pub(crate) fn part(
     alloc: Global,
     groups: &mut Classes,
@@ -42,8 +44,8 @@ pub(crate) fn part(
     Ok(())
 }
 
-// For each of so many numbers a row of bits: for a listed one that isn't alone in its group, the number of its lead's answer to
-// the vector of a lane.
+// Returns a row of bits for each of `count` numbers. The row of a listed number that isn't alone in its group has the
+// number of its lead's answer to the vector of the lane.
 fn number_rows(
     alloc: Global,
     groups: &Classes,
@@ -69,7 +71,8 @@ fn number_rows(
     Ok(rows)
 }
 
-/// Writes into the row of each number of the listed classes the number of what its class's lead answers to the vector of a lane.
+/// Writes into the row of each number of the listed classes the number of the answer of its class's lead to the vector
+/// of a lane.
 pub(crate) fn number_members(
     rows: &mut AnswerRows,
     classes: &Classes,
@@ -90,7 +93,7 @@ pub(crate) fn number_members(
     }
 }
 
-// Writes the bits of a number into the rows of members.
+// Writes the bits of `number` into the rows of the members.
 fn write_rows(rows: &mut AnswerRows, members: &[u32], number: u32)
     requires within { All (λ member. member < length rows.old) members.now }
     requires widths { (row : ℕ) → row < length rows.old → length (row_at rows.old row) ≡ 32 }

@@ -1,4 +1,5 @@
-//! Groups of two numbers or more. A number that is alone in its group is told apart from all others, so nothing more is asked of it.
+//! Groups of two numbers or more. A number that is alone in its group is distinguished from all others and isn't looked
+//! at again.
 
 ghost use Rattle.std.specs.Prelude.{◌≡◌, ◌<◌, length, map, All, IfOk};
 ghost use Rattle.class_refine.specs.Fields.{IsWhole};
@@ -8,7 +9,7 @@ ghost use Rattle.compact_tests.specs.Sharing.{has_two, shared_groups as all_shar
 use class_refine::Classes;
 use std::alloc::{AllocError, Global};
 
-/// The groups of two numbers or more, ascending.
+/// Returns the groups of two numbers or more, ascending.
 pub(crate) fn shared_groups(alloc: Global, groups: &Classes) -> Result<Vec<u32>, AllocError>
     ensures shared { IfOk result (λ shared. shared.items ≡ all_shared groups.now) }
     ensures whole { IsWhole groups.now }
@@ -22,7 +23,7 @@ pub(crate) fn shared_groups(alloc: Global, groups: &Classes) -> Result<Vec<u32>,
     Ok(shared)
 }
 
-/// The numbers that aren't alone in their groups, ascending. There are so many numbers.
+/// Returns the numbers that aren't alone in their groups, ascending. `numbers` is the count of all numbers.
 pub(crate) fn sharing_numbers(
     alloc: Global,
     groups: &Classes,
@@ -40,7 +41,7 @@ pub(crate) fn sharing_numbers(
     Ok(sharing)
 }
 
-/// Whether two numbers or more are in a group.
+/// Returns whether the group has two numbers or more.
 pub(crate) fn is_group(groups: &Classes, group: u32) -> bool
     requires { group < class_count groups.now }
     ensures { result ≡ has_two groups.now group }
@@ -48,7 +49,7 @@ pub(crate) fn is_group(groups: &Classes, group: u32) -> bool
     1 < groups.members(group).len()
 }
 
-/// The lowest numbers of these classes.
+/// Returns the lowest number of each listed class.
 pub(crate) fn lowest_of(
     alloc: Global,
     classes: &Classes,

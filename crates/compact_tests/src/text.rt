@@ -21,7 +21,8 @@ use net_model::{Circuit, Vector};
 use result_file::{Budgets, Mark, Record, push_classes, push_members, push_pattern, write_record};
 use std::alloc::{AllocError, Global};
 
-/// The first two lines, and those of the patterns at these places. The circuit has so many fault numbers.
+/// Returns the first two lines and those of the patterns at these places. `numbers` is the number of the circuit's
+/// faults.
 pub(crate) fn first_lines(
     alloc: Global,
     circuit: &Circuit,
@@ -46,8 +47,8 @@ pub(crate) fn first_lines(
     Ok(text)
 }
 
-/// Appends the evidence that is needed, the lines of the classes and of the numbers, and the end: what the bytes of a result
-/// with so many numbers state of these, for other classes.
+/// Appends the needed evidence, the lines of the classes and of the numbers, and the end. Evidence and marks are those
+/// that `bytes`, a result with `numbers` numbers, states; `classes` are the new classes.
 pub(crate) fn push_numbers(
     text: &mut Vec<u8>,
     alloc: Global,
@@ -66,8 +67,8 @@ pub(crate) fn push_numbers(
     Ok(())
 }
 
-// Appends the evidence of the numbers that aren't representatives. There are so many numbers, and a line of the bytes for
-// each that is named by evidence.
+// Appends the evidence of the numbers that aren't representatives. `lines` has for each number the line of `bytes` with
+// its evidence, if there is one.
 fn push_evidence(
     text: &mut Vec<u8>,
     bytes: &[u8],
@@ -85,7 +86,7 @@ fn push_evidence(
     Ok(())
 }
 
-// Appends the evidence of a number that isn't a representative, if there is some.
+// Appends the evidence of the number if there is some and the number isn't a representative.
 fn push_needed(
     text: &mut Vec<u8>,
     bytes: &[u8],
@@ -109,7 +110,7 @@ fn push_needed(
     }
 }
 
-// The lines of the classes and of the numbers, and the end.
+// Returns the lines of the classes and of the numbers, and the end.
 fn last_lines(alloc: Global, classes: &Classes, marks: &[Mark]) -> Result<String, AllocError>
     requires whole { length marks.now ≡ length classes.now.class_of }
     requires few { length marks.now < 2 ^ 32 }

@@ -26,7 +26,7 @@ impl Text {
         Text { bytes }
     }
 
-    /// The bytes.
+    /// Returns the bytes.
     pub fn as_slice(&self) -> &[u8]
         ensures { result.now ≡ self.now }
     {
@@ -34,7 +34,8 @@ impl Text {
     }
 }
 
-/// The text of a result without the patterns that its classes don't need, what it amounts to, and how many patterns were dropped.
+/// The text of a result without the patterns that its classes don't need, its summary, and the number of patterns that
+/// were dropped.
 #[derive(Debug, Drop)]
 pub struct Thin {
     pub text: Text,

@@ -1,4 +1,4 @@
-//! Which patterns the classes need, from the last to the first.
+//! Which patterns the classes need: static compaction from the last pattern to the first, a block at a time.
 
 ghost use Rattle.std.specs.Prelude.{◌≡◌, ◌+◌, ◌<◌, ◌^◌, ℕ, Bool, List, All, length, IfOk, OnOk};
 ghost use Rattle.net_model.specs.FaultList.{faults as faults_of, fault_count};
@@ -19,7 +19,7 @@ use std::alloc::{AllocError, Global};
 use table_dicts::fill_block;
 use word_sim::{Block, LANES};
 
-/// The patterns that remain, by their places, ascending. `faults` is the list of the circuit's faults.
+/// Returns the places of the patterns that remain, ascending. `faults` is the list of the circuit's faults.
 pub(crate) fn needed_patterns(
     alloc: Global,
     circuit: &Circuit,
@@ -35,24 +35,23 @@ pub(crate) fn needed_patterns(
     Ok(thinning.into_needed())
 }
 
-/// The patterns that are needed from one on.
+/// The patterns found needed, on the way from the last pattern to the first.
 pub(crate) struct Thinning<'a> {
-    // The classes by all patterns.
+    // The classes of all patterns.
     pub(crate) classes: &'a Classes,
-    // The class that each class was before the pattern.
+    // For each class the class that it was before the pattern.
     pub(crate) earlier: Vec<u32>,
-    // The classes in groups: those that the needed patterns don't tell apart.
+    // Groups of classes: the needed patterns don't distinguish the classes of one group.
     pub(crate) groups: Classes,
-    // The groups of two classes or more, ascending. A class that is alone in its group never matters again.
+    // The groups of two classes or more, ascending. A class that is alone in its group isn't looked at again.
     pub(crate) shared: Vec<u32>,
-    // No mark is set: room for what is looked for in a group.
+    // Room for looking for a repeated class in a group. No mark is set.
     pub(crate) marks: Vec<bool>,
     // The needed patterns, the last one first.
     pub(crate) needed: Vec<usize>,
 }
 
-// Written out, it is one step in the proof of each function that lets a thinning go, where a derived one is a step for each
-// vector in it.
+// As for `Keeping`. A derived one takes a step for each vector in it.
 impl Drop for Thinning<'_> {
     fn drop(self) {
         let Thinning {
@@ -67,7 +66,7 @@ impl Drop for Thinning<'_> {
 }
 
 impl<'a> Thinning<'a> {
-    // Behind the last pattern.
+    // Returns the state after the last pattern, before any is looked at.
     fn new(alloc: Global, classes: &'a Classes) -> Result<Thinning<'a>, AllocError>
         ensures thinning { IfOk result (IsThinning classes.now) }
         ensures begun { IfOk result (λ thinning. (numbers : ℕ) (all : List Answered) → IsTableOfAll numbers classes.now all → IsThinnedTo numbers classes.now all (length all) thinning) }
@@ -89,7 +88,7 @@ impl<'a> Thinning<'a> {
         })
     }
 
-    // Goes back over all patterns.
+    // Looks at all patterns, from the last to the first.
     fn pass_all(
         &mut self,
         alloc: Global,
@@ -117,7 +116,8 @@ impl<'a> Thinning<'a> {
         Ok(())
     }
 
-    // Goes back over the patterns of a block, from the first one on. Only classes that aren't told apart from all others are simulated.
+    // Looks at the patterns of a block, whose first pattern is `first`, from the last to the first. Only classes that
+    // aren't distinguished from all others are simulated.
     fn pass_block(
         &mut self,
         alloc: Global,
@@ -143,8 +143,8 @@ impl<'a> Thinning<'a> {
         Ok(())
     }
 
-    // Goes back over the lanes of a block, so many, of which lane 0 has the vector of the first pattern. `listed` are the classes
-    // of the leads.
+    // Looks at the patterns of the first `count` lanes of a block, from the last to the first. Lane 0 has the vector of
+    // the pattern `first`. `listed` are the classes of the leads.
     fn pass_lanes(
         &mut self,
         alloc: Global,
@@ -170,7 +170,7 @@ impl<'a> Thinning<'a> {
         Ok(())
     }
 
-    // Goes back over a pattern, of which the vector is that of a lane.
+    // Looks at a pattern, whose vector is in the lane, and notes it if it is needed.
     fn pass(
         &mut self,
         alloc: Global,
@@ -213,7 +213,7 @@ impl<'a> Thinning<'a> {
         Ok(())
     }
 
-    // The needed patterns, ascending.
+    // Returns the needed patterns, ascending.
     fn into_needed(self) -> Vec<usize>
         ensures places { (all : List Answered) → All (λ place. place < length all) self.entry.needed.items → All (λ place. place < length all) result.items }
         ensures needed { (n : ℕ) (all : List Answered) → IsThinnedTo n self.entry.classes.now all 0 self.entry → patterns_at all result.items ≡ remaining n all }

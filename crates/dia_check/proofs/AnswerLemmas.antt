@@ -1,4 +1,4 @@
--- What the check answers, once the rest of the file is read.
+-- What the check returns once the rest of the file is read.
 use Rattle.std.proofs.Common.{◌≡◌, ◌∙◌, ℕ, ◌≤◌, true, false, List, length, Option, None, Result, Ok, Err, refl, sym, ap}
 use Rattle.std.specs.Prelude.{IfOk, OnOk, IsErrOf, IsSome, is_some}
 use Rattle.diag_shelf.specs.World.{State}
@@ -23,7 +23,7 @@ use Rattle.dia_check.specs.Reader.{IsReading}
 use Rattle.dia_check.specs.Rest.{HasRead}
 use Rattle.dia_check.proofs.RestLemmas.{rest_read, rest_whole}
 
--- what holds whatever is answered
+-- What holds whatever is returned.
 pub on_any : {T P : Type 0} (result : Result T FileFault) → P → OnOk (as_shelf result) P
 on_any (Ok x) p = p
 on_any (Err (file.Result fault)) p = p
@@ -35,7 +35,7 @@ on_no_result P (file.Result fault) never = absurd (never fault refl)
 on_no_result P file.Failed never = tt
 on_no_result P file.NoMemory never = tt
 
--- an answer behind a call that read is no fault of the shelf, but that it failed
+-- A result after a call that reads is no fault of the shelf, unless the call failed.
 pub call_after : {T : Type 0} (result : Result T FileFault) {a b : State} → ¬ IsErrOf result file.Failed → IsReadCall {T = Unit {0}} (Ok tt) a b → IsReadCall (as_shelf result) a b
 call_after (Ok x) never call = call
 call_after (Err (file.Result fault)) never call = call
@@ -54,7 +54,7 @@ memory_is_no_fault fault same = cc
 pub accepted_is_no_fault : (checked : Checked) (fault : ResultFault) → ¬ IsErrOf (Ok checked) (file.Result fault)
 accepted_is_no_fault checked fault same = cc
 
--- a sure shelf doesn't fail to read a file that is opened
+-- A sure shelf doesn't fail to read an opened file.
 pub opened_never_fails : (e : ShelfFault) {rest : Option (List ℕ)} → (IsErrOf (let r : Result ℕ ShelfFault = Err e in r) shelf.Failed → rest ≡ None) → IsSome rest → ¬ IsErrOf (let r : Result (Unit {0}) FileFault = Err (file_fault e) in r) file.Failed
 opened_never_fails shelf.Failed fails some same = let clash : false ≡ true = ap is_some (sym (fails refl)) ∙ some in cc
 opened_never_fails shelf.NoMemory fails some same = cc

@@ -1,4 +1,4 @@
--- A line behind those that were judged: it is refused, or it is one more.
+-- A line after those that were judged is refused, or is one more.
 use Rattle.std.proofs.Common.{◌≡◌, ◌∙◌, ℕ, zero, suc, false, ◌+◌, ◌<◌, ◌≤◌, ◌^◌, Bool, List, [], ◌∷◌, ◌++◌, map, length, length-append, None, Result, Ok, Err, refl, sym, ap, subst, append_assoc, arith}
 use Rattle.std.specs.Prelude.{Contains, ◌==◌}
 use Rattle.std.proofs.lemmas.List.{append-nil, length-map}
@@ -27,7 +27,7 @@ use Rattle.dia_check.specs.Progress.{IsProgress}
 use Rattle.dia_check.specs.Checker.{IsChecker, AreUnjudged, IsCheckOf, HasCheck, IsRefusedText, IsJudged, JudgesText, JudgesWaiting, record_line}
 use Rattle.dia_check.proofs.Counting.{read_same, text_more, lines_short}
 
--- a fault of the line behind so many
+-- A fault of the line after the given number of lines.
 abbrev pub fault_behind : ResultKind → ℕ → ResultFault
 fault_behind kind lines = record { kind = kind; line = lines + 1 }
 
@@ -39,7 +39,7 @@ nothing_waits c seen waiting none = rw none (record {
   place = λ some. absurd (omega arith);
 })
 
--- a refused text is refused with more behind it
+-- A refused text is refused with more after it.
 pub refused_longer : {c : Circuit} {text : Text} {fault : ResultFault} (more : Text) → IsRefusedText c text fault → IsRefusedText c (text ++ more) fault
 refused_longer {c} {text} {fault} more is = record { refused = λ rest. subst (λ (file : Text). FileRefused c file fault) (sym (append_assoc text more rest)) (is.refused (more ++ rest)) }
 
@@ -62,7 +62,7 @@ module _ {c : Circuit} {text : Text} {k : Checker} (is : IsCheckOf c text k) whe
     pub text_seen : text ≡ text_of is.seen
     text_seen = is.text_is ∙ ap (λ (w : List (List Bool)). text_of (is.seen ++ map Pattern w)) none ∙ ap text_of (append-nil is.seen)
 
-    -- the line is refused
+    -- The line is refused.
     pub refused_line : (line : Text) (reason : ResultKind) → ¬ Contains line 10 → length (text ++ (line ++ 10 ∷ [])) ≤ RESULT_LIMIT → ((more : Text) → RestRefused c is.seen (line ++ 10 ∷ more) reason)
         → IsRefusedText c (text ++ (line ++ 10 ∷ [])) (fault_behind reason k.progress.lines)
     refused_line line reason one short rest = record {
@@ -85,7 +85,7 @@ module _ {c : Circuit} {text : Text} {k : Checker} (is : IsCheckOf c text k) whe
       pub wrong_line : (reason : ResultKind) → IsInPlace k.keeper.kept.table is.seen r → ContentRefused c k.keeper.kept.table is.seen r reason → IsRefusedText c (text ++ record_line r) (fault_behind reason k.progress.lines)
       wrong_line reason place refused = refused_line (spelling r) reason one short (λ more. wrong r (begins more) (record { table = k.keeper.kept.table; table_is = table_seen; place = place; refused = refused }))
 
-    -- the line is one more
+    -- The line is one more.
     pub taken_line : (r : Record) (new : Checker) → length (text ++ record_line r) ≤ RESULT_LIMIT → new.waiting.items ≡ [] → IsChecker c (is.seen ++ r ∷ []) new → IsCheckOf c (text ++ record_line r) new
     taken_line r new short empty next = record {
       seen = is.seen ++ r ∷ [];
@@ -100,7 +100,7 @@ module _ {c : Circuit} {text : Text} {k : Checker} (is : IsCheckOf c text k) whe
   pub next_line : (r : Record) → HasSpelling r → IsInPlace k.keeper.kept.table is.seen r → IsRightContent c k.keeper.kept.table is.seen r → IsNextLine c is.seen r
   next_line r spelled place content = record { spelled = spelled; right = record { t = k.keeper.kept.table; table = table_seen; place = place; content = content } }
 
--- a line more that is no pattern and no evidence
+-- One more line that is no pattern and no evidence.
 pub checker_line : {c : Circuit} {seen : List Record} {k : Checker} → IsChecker c seen k → (r : Record) (q : Progress) → IsNextLine c seen r → pattern_of r ≡ None → evidence_of r ≡ None
     → (0 < class_lines (seen ++ r ∷ []) → next_member k.keeper.kept.table (evidence_in seen) ≡ None) → IsProgress (seen ++ r ∷ []) q → IsChecker c (seen ++ r ∷ []) (record k { progress = q })
 checker_line {c} {seen} {k} is r q next no_pattern no_evidence complete progress = record {
@@ -119,7 +119,7 @@ checker_line {c} {seen} {k} is r q next no_pattern no_evidence complete progress
 pub few_lines : {c : Circuit} {k : Checker} → HasCheck c k → k.progress.lines + 1 < 2 ^ 64
 few_lines has = omega (arith, many_lines has.is)
 
--- the answer where the line of a record is refused and nothing waits
+-- What is returned if the line of a record is refused and nothing is waiting.
 module _ {c : Circuit} {k new : Checker} (none : k.waiting.items ≡ []) (r : Record) (spelled : HasSpelling r) (one : ¬ Contains (spelling r) 10) where
   pub judged_misplaced : ((text : Text) (is : IsCheckOf c text k) → ¬ IsInPlace k.keeper.kept.table is.seen r) → JudgesText c k new (record_line r) (Err (stop.Refused (fault_behind why.Order k.progress.lines)))
   judged_misplaced out = record { judged = λ text is short. misplaced_line is none r spelled one short (out text is) }
@@ -130,7 +130,7 @@ module _ {c : Circuit} {k new : Checker} (none : k.waiting.items ≡ []) (r : Re
 
 -- ---- one after another
 
--- what waits is judged first
+-- The waiting lines are judged first.
 pub judged_then : {c : Circuit} {old mid new : Checker} {line : Text} {x : Unit {0}} {result : Result (Unit {0}) Stop} → JudgesWaiting c old mid (Ok x) → JudgesText c mid new line result → JudgesText c old new line result
 judged_then first next = record { judged = λ text is short. next.judged text (first.judged text is) short }
 

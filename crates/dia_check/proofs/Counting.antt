@@ -1,4 +1,4 @@
--- What records count for and say with one more.
+-- What records count and say with one more.
 use Rattle.std.proofs.Common.{◌≡◌, ◌∙◌, ℕ, ◌+◌, ◌≤◌, Bool, true, false, cond, List, [], ◌∷◌, ◌++◌, length, length-append, Option, None, refl, ap, arith}
 use Rattle.std.specs.List.{count_by, filter_map}
 use Rattle.std.proofs.lemmas.List.{append-nil}
@@ -30,11 +30,11 @@ module _ (rs : List Record) (r : Record) where
   pub length_one : length (rs ++ r ∷ []) ≡ length rs + 1
   length_one = omega (arith, length-append rs (r ∷ []))
 
--- the text with one line more
+-- The text with one line more.
 pub text_more : (rs : List Record) (r : Record) → text_of (rs ++ r ∷ []) ≡ text_of rs ++ record_line r
 text_more rs r = text-append rs (r ∷ []) ∙ ap (λ (t : Text). text_of rs ++ t) (append-nil (record_line r))
 
--- each line has a byte
+-- Each line has a byte.
 pub lines_short : (rs : List Record) → length rs ≤ length (text_of rs)
 lines_short [] = omega arith
 lines_short (r ∷ rs) = omega (arith, lines_short rs, length-append (spelling r ++ 10 ∷ []) (text_of rs), length-append (spelling r) (10 ∷ []))

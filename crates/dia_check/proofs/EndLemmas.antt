@@ -27,7 +27,7 @@ pub ends_stopped : {c : Circuit} {old mid new : Checker} {rest : Text} (s : Stop
 ends_stopped {c} {old} {mid} {new} {rest} s first = record { judged = λ text is short. ends_by c mid new text rest s (first.judged text is) }
 
 module _ {c : Circuit} {text : Text} {k : Checker} (is : IsCheckOf c text k) (none : k.waiting.items ≡ []) (rest : Text) where
-  -- bytes without LF stand behind the last line
+  -- Bytes without LF come after the last line.
   pub end_syntax : ¬ Contains rest 10 → length (text ++ rest) ≤ RESULT_LIMIT → rest ≢ [] → FileRefused c (text ++ rest) (fault_behind why.Syntax k.progress.lines)
   end_syntax one short some =
       let long : line_length rest ≡ length rest = unended_length rest one in
@@ -35,7 +35,7 @@ module _ {c : Circuit} {text : Text} {k : Checker} (is : IsCheckOf c text k) (no
       (omega (arith, short, long, length-append text rest, ap length (text_seen is none))) (no_record (record { some = some; none = unended rest one }) refl)
       (λ i. fault_behind why.Syntax (is.is.progress.lines i))
 
-  -- or the end doesn't stand
+  -- The end line hasn't come.
   pub end_order : rest ≡ [] → k.progress.ended ≡ false → FileRefused c (text ++ rest) (fault_behind why.Order k.progress.lines)
   end_order nothing going =
       let zero : line_length [] ≡ 0 = omega arith in
@@ -43,7 +43,7 @@ module _ {c : Circuit} {text : Text} {k : Checker} (is : IsCheckOf c text k) (no
       (omega (arith, zero, is.short, ap length (text_seen is none))) (no_line (record { nothing = refl; unended = is.is.progress.unended going }) refl)
       (λ i. fault_behind why.Order (is.is.progress.lines i))
 
--- what the lines state, once the end stands
+-- What the lines state once the end has come.
 pub states_all : {c : Circuit} {text : Text} {k : Checker} → IsJudgedWhole c text k → (checked : Checked)
     → checked.summary ≡ record { numbers = k.progress.members; patterns = k.keeper.kept.table.patterns; classes = k.progress.classes; equal = k.progress.marked.equal; spent = k.progress.marked.spent }
     → checked.budgets ≡ k.progress.budgets → checked.patterns ≡ k.keeper.kept.vectors → checked.classes ≡ k.keeper.kept.table → IsAcceptedText c text checked

@@ -1,4 +1,4 @@
--- What lines state with one more, and what may not stand behind the end.
+-- What lines state with one more, and what may not come after the end.
 use Rattle.std.proofs.Common.{◌≡◌, ◌∙◌, ℕ, ◌+◌, ◌<◌, ◌≤◌, Bool, true, false, cond, List, [], ◌∷◌, ◌++◌, length, length-append, Option, None, refl, sym, ap, arith}
 use Rattle.std.specs.Prelude.{unwrap_or}
 use Rattle.std.specs.List.{count_by, filter_map, slice_get}
@@ -19,7 +19,7 @@ use Rattle.dia_check.specs.declared.progress.Progress.{Progress}
 use Rattle.dia_check.specs.Progress.{IsProgress, IsEnded, no_progress, with_member}
 use Rattle.dia_check.proofs.Counting.{count_same, count_up, read_same, length_one}
 
--- at first nothing is stated
+-- At first nothing is stated.
 pub progress_none : IsProgress [] no_progress
 progress_none =
     let none : AreWithinLimits no_budgets = record { blocks = omega arith; cubes = omega arith; conflicts = omega arith } in
@@ -37,7 +37,7 @@ long records is =
     let none : ◌≡◌ {A = ℕ} (cond (is_class End) 1 0) 0 = refl in
     omega (arith, none, is.classes, ap class_lines is.ended, ap length is.ended, length-append is.before (End ∷ []), sum_by-append (λ r. cond (is_class r) 1 0) is.before (End ∷ []), count_by-le-length is_class is.before)
 
--- nothing has its place there
+-- No record has its place after the end.
 none_behind : (t : ClassTable) (records : List Record) → IsEnded records → (r : Record) → IsInPlace t records r → ⊥
 none_behind t records is (Head s p n) place = omega (arith, ap length place, long records is)
 none_behind t records is (Budget b) place = omega (arith, place, long records is)
@@ -51,15 +51,15 @@ module _ {rs : List Record} {p : Progress} (is : IsProgress rs p) where
   pub open_in_place : (t : ClassTable) (r : Record) → IsInPlace t rs r → p.ended ≡ false
   open_in_place t r place = false_from_ne_true p.ended (λ e. none_behind t rs (is.ended e) r place)
 
-  -- the end stands, or no end does
+  -- No record has its place once the end has come.
   pub ended_out : (t : ClassTable) (r : Record) → p.ended ≡ true → ¬ IsInPlace t rs r
   ended_out t r e place = none_behind t rs (is.ended e) r place
 
-  -- a count that the line leaves as it is
+  -- A count that the line leaves as it is.
   stays : (r : Record) (test : Record → Bool) {n : ℕ} → test r ≡ false → n ≡ count_by test rs → n ≡ count_by test (rs ++ r ∷ [])
   stays r test none e = e ∙ sym (count_same rs r test none)
 
-  -- one line more that states no budgets, with the counts behind it
+  -- One more line that states no budgets, with the counts after it.
   progress_more : (r : Record) (q : Progress) → budgets_of r ≡ None → q.lines ≡ p.lines + 1 → q.budgets ≡ p.budgets → q.classes ≡ class_lines (rs ++ r ∷ []) → q.members ≡ member_lines (rs ++ r ∷ []) → q.marked.equal ≡ count_by is_equal (rs ++ r ∷ [])
       → q.marked.spent ≡ count_by is_open (rs ++ r ∷ []) → q.marked.equal ≤ q.members → q.marked.spent ≤ q.members → (q.ended ≡ false → end_lines (rs ++ r ∷ []) ≡ 0) → (q.ended ≡ true → IsEnded (rs ++ r ∷ [])) → IsProgress (rs ++ r ∷ []) q
   progress_more r q no_budget lines budgets classes members equal spent few_equal few_spent unended ended = record {
@@ -84,7 +84,7 @@ module _ {rs : List Record} {p : Progress} (is : IsProgress rs p) where
     never : (r : Record) → p.ended ≡ true → IsEnded (rs ++ r ∷ [])
     never r e = cc
 
-    -- one line more that counts for nothing else
+    -- One more line that no other count counts.
     pub progress_line : (r : Record) → is_class r ≡ false → is_member r ≡ false → is_equal r ≡ false → is_open r ≡ false → is_end r ≡ false → budgets_of r ≡ None → IsProgress (rs ++ r ∷ []) (record p { lines = p.lines + 1 })
     progress_line r no_class no_member no_equal no_open no_end no_budget =
         progress_more r (record p { lines = p.lines + 1 }) no_budget refl refl (stays r is_class no_class is.classes) (stays r is_member no_member is.members) (stays r is_equal no_equal is.equal) (stays r is_open no_open is.spent)

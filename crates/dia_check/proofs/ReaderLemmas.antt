@@ -1,4 +1,4 @@
--- Bytes that are read: lines among them, the limit, and the end.
+-- Bytes that are read: the lines in them, the limit, and the end.
 use Rattle.std.proofs.Common.{◌≡◌, ◌∙◌, ℕ, suc, ◌-◌, ◌<◌, ◌≤◌, true, false, [], ◌∷◌, ◌++◌, length, length-append, length-take, take, Option, None, Some, Ok, Err, refl, sym, ap, subst, append_assoc, arith}
 use Rattle.std.specs.Prelude.{Contains, not, min, drop, is_some}
 use Rattle.std.specs.List.{prefix_len}
@@ -74,7 +74,7 @@ held_size (b ∷ held) more one =
     let other : is_inside b ≡ true = ap not (ne_eqb b 10 (λ e. one (0, omega arith, e))) in
     rw other (omega (arith, rest))
 
--- a line goes beyond bytes without LF if any byte stands behind them
+-- A line is longer than bytes without LF if any byte comes after them.
 line_longer : (held more : Text) → ¬ Contains held 10 → 0 < length more → length held < line_length (held ++ more)
 line_longer held more one some =
     let size = held_size held more one in
@@ -96,7 +96,7 @@ module _ {c : Circuit} {text : Text} (held : Text) {k : Checker} (is : IsCheckOf
 
 -- ---- what is known of the bytes so far
 
--- at first there are none
+-- At first no byte is read.
 pub reading_none : {c : Circuit} (r : Reader) → IsCheckOf c [] r.checker → r.lines ≡ [] → r.room ≡ RESULT_LIMIT → r.refused ≡ None → IsReading c [] r
 reading_none {c} r is lines_is room_is none = record {
   going = λ e. record {
@@ -107,7 +107,7 @@ reading_none {c} r is lines_is room_is none = record {
   refused = λ fault there. let clash : ◌≡◌ {A = Option ResultFault} None (Some fault) = sym none ∙ there in absurd (cc);
 }
 
--- once a line is refused nothing is looked at
+-- Once a line is refused, nothing is looked at.
 pub reading_longer : {c : Circuit} {fed : Text} {r : Reader} (piece : Text) → is_some r.refused ≡ true → IsReading c fed r → IsReading c (fed ++ piece) r
 reading_longer {c} {fed} {r} piece some is = record {
   going = λ none. let clash : false ≡ true = ap is_some (sym none) ∙ some in absurd (cc);
@@ -155,7 +155,7 @@ module _ {c : Circuit} {fed : Text} {old : Reader} (is : HasJudgedLines c fed ol
     pub inside_held : IsHeld c (fed ++ inside) r
     inside_held = held_more is.held inside r checker_is lines_is
 
-    -- all of it is within the limit
+    -- All of the piece is within the limit.
     pub piece_taken : {new : Reader} {x : Unit {0}} → TakesLines c r new (Ok x) → length piece ≤ count → r.room ≡ old.room - count → HasJudgedLines c (fed ++ piece) new
     piece_taken {new} takes all room_is =
         let taken = takes.taken (fed ++ inside) inside_held inside_short in
@@ -180,7 +180,7 @@ module _ {c : Circuit} {fed : Text} {old : Reader} (is : HasJudgedLines c fed ol
           subst (λ (t : Text). IsRefusedText c t fault) whole (refused_longer (drop count piece) (subst (λ (t : Text). IsRefusedText c t fault) (sym h.fed_is) longer))
       judged_in k r' stop.NoMemory h refused = tt
 
-      -- a pattern that waited is refused
+      -- A waiting pattern is refused.
       pub waiting_stopped : {k : Checker} (s : Stop) → JudgesWaiting c new.checker k (Err s) → (r' : Reader) → IsTaken c (fed ++ piece) r' (Err s)
       waiting_stopped {k} s judges r' =
           let h = (takes.taken (fed ++ inside) inside_held inside_short).0 in
@@ -189,7 +189,7 @@ module _ {c : Circuit} {fed : Text} {old : Reader} (is : HasJudgedLines c fed ol
       pub waiting_has : HasCheck c new.checker
       waiting_has = let h = (takes.taken (fed ++ inside) inside_held inside_short).0 in record { text = h.text; is = h.check }
 
-      -- or the line goes beyond the limit
+      -- The line goes beyond the limit.
       pub piece_beyond : {k : Checker} {y : Unit {0}} → JudgesWaiting c new.checker k (Ok y) → k.waiting.items ≡ [] → count < length piece → IsRefusedText c (fed ++ piece) (fault_behind why.TooLong k.progress.lines)
       piece_beyond {k} judges none below =
           let taken = takes.taken (fed ++ inside) inside_held inside_short in

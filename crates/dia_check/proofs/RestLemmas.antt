@@ -16,22 +16,22 @@ use Rattle.dia_check.specs.Left.{rest_of, ReadsRest}
 use Rattle.dia_check.specs.Reader.{IsRefusedEnd}
 use Rattle.dia_check.specs.Rest.{TakesText, TakesAll}
 
--- at first nothing is taken
+-- At first nothing is taken.
 pub takes_nothing : (world : World) → IsSome world.rest → TakesText [] world world
 takes_nothing world some = record { opened = some; rest = refl }
 
--- a piece more
+-- One piece more.
 pub takes_more : {fed : Text} {old mid new : World} (piece : List ℕ) (count : ℕ) → TakesText fed old mid → Takes piece count mid new → TakesText (fed ++ take count piece) old new
 takes_more {fed} {old} {mid} {new} piece count so_far takes = record {
   opened = takes.still_opened;
   rest = so_far.rest ∙ ap (λ (t : Text). fed ++ t) (ap (λ (o : Option Text). unwrap_or o []) takes.rest) ∙ sym (append_assoc fed (take count piece) (rest_of new));
 }
 
--- so many bytes were taken
+-- At most `most` bytes were taken.
 pub takes_few : {fed : Text} {most : ℕ} {old new : World} → IsSome old.rest → OnlyReads old new → TakesText fed old new → length fed ≤ most → ReadsUpTo most old new
 takes_few {fed} {most} {old} {new} some only taken few = reads_on_few fed most few only taken.opened (left_by old.rest some ∙ ap (λ (t : Text). Some t) taken.rest)
 
--- and no more in a call that changes nothing
+-- A call that changes nothing takes no more.
 pub takes_no_more : {most : ℕ} {old mid new : World} → ReadsUpTo most old mid → Same mid new → ReadsUpTo most old new
 takes_no_more so_far same = (
   so_far.0,
@@ -42,11 +42,11 @@ takes_no_more so_far same = (
   },
 )
 
--- nothing is read at first
+-- At first nothing is read.
 pub reads_nothing : (most : ℕ) (world : World) → IsSome world.rest → ReadsUpTo most world world
 reads_nothing most world some = takes_few some (record { files = refl; written = refl; console = refl }) (takes_nothing world some) (omega arith)
 
--- the end is found where a piece has no byte
+-- The end is found if a piece has no byte.
 pub takes_end : {fed : Text} {old mid new : World} (piece : List ℕ) (count : ℕ) → TakesText fed old mid → Takes piece count mid new → count ≡ 0 → 0 < length piece → TakesAll fed old new
 takes_end {fed} {old} {mid} {new} piece count so_far takes zero some =
     let more = takes_more piece count so_far takes in
@@ -59,7 +59,7 @@ takes_end {fed} {old} {mid} {new} piece count so_far takes zero some =
       end = inr end;
     }
 
--- or where so many bytes are taken
+-- The end is found if one byte beyond the limit is taken.
 pub takes_limit : {fed : Text} {old new : World} → TakesText fed old new → length fed ≡ RESULT_LIMIT + 1 → TakesAll fed old new
 takes_limit taken full = record { taken = taken; end = inl full }
 
@@ -91,7 +91,7 @@ module _ {fed : Text} {old new : World} (all : TakesAll fed old new) where
         | inr none ↦ subst P (sym (all.taken.rest ∙ ap (λ (t : Text). fed ++ t) none ∙ append-nil fed)) is.whole
       ]
 
--- some text is refused so, and it is the rest where the shelf tells
+-- Some text is refused with this fault, and it is the rest if the shelf tells its files.
 pub text_refused : (tells : Bool) {fed : Text} {old new : World} {c : Circuit} {fault : ResultFault} → (IsTrue tells → TakesAll fed old new) → IsRefusedEnd c fed fault → (text : Text) × FileRefused c text fault × (IsTrue tells → rest_of old ≡ text)
 text_refused true {fed} {old} {new} all is = (rest_of old, rest_refused (all refl) is, λ told. refl)
 text_refused false {fed} {old} {new} all is = (fed, is.whole, λ told. absurd (cc))

@@ -1,4 +1,4 @@
--- Patterns that waited: they are kept, up to the first that splits no class.
+-- Waiting patterns are kept, up to the first that splits no class.
 use Rattle.std.proofs.Common.{◌≡◌, ◌∙◌, ℕ, suc, ◌+◌, ◌<◌, ◌≤◌, Bool, List, [], ◌∷◌, ◌++◌, map, length, length-append, length-take, take, get_or, refl, sym, ap, subst, append_assoc, arith}
 use Rattle.std.specs.Prelude.{All, drop, unwrap_or}
 use Rattle.std.specs.List.{slice_get}
@@ -33,7 +33,7 @@ use Rattle.dia_check.specs.Checker.{IsCheckOf, IsRefusedText, record_line}
 use Rattle.dia_check.proofs.ProgressLemmas.{open_in_place}
 use Rattle.dia_check.proofs.CheckLemmas.{fault_behind, nothing_waits}
 
--- patterns behind records, each of which splits a class of those before it
+-- Patterns after records, each of which splits a class of those before it.
 patterns_with : (seen : List Record) (vectors : List (List Bool)) → patterns_in (seen ++ map Pattern vectors) ≡ patterns_in seen ++ vectors
 patterns_with seen vectors = read_more Pattern seen pattern_of (λ v. v) (λ v. refl) vectors ∙ ap (λ (vs : List (List Bool)). patterns_in seen ++ vs) (map-id vectors)
 
@@ -114,7 +114,7 @@ module _ {c : Circuit} {text : Text} {k : Checker} (is : IsCheckOf c text k) (so
   two_then : 2 ≤ length seen
   two_then = omega (arith, length-append is.seen (map Pattern kept), (is.waiting.place some).0)
 
-  -- all of them are kept
+  -- All of them are kept.
   pub run_taken : count ≡ length waiting → (new : Checker) → keeper.circuit ≡ k.keeper.circuit → new.keeper ≡ keeper → new.marks ≡ k.marks → new.from ≡ 0 → new.progress ≡ record k.progress { lines = k.progress.lines + count } → new.evidence ≡ k.evidence
       → new.waiting.items ≡ [] → IsCheckOf c text new
   run_taken whole new same keeper_is marks_is from_is progress_is evidence_is empty =
@@ -140,7 +140,7 @@ module _ {c : Circuit} {text : Text} {k : Checker} (is : IsCheckOf c text k) (so
         short = is.short;
       }
 
-  -- or one of them splits no class
+  -- One of them splits no class.
   pub run_refused : count < length waiting → ¬ SplitsClass k.keeper.circuit keeper.kept.vectors (get_or waiting count []) → IsRefusedText c text (fault_behind why.Pattern (k.progress.lines + count))
   run_refused below never =
       let v = get_or waiting count [] in

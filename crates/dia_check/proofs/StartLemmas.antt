@@ -15,7 +15,7 @@ use Rattle.dia_check.specs.Checker.{IsCheckOf, IsReadyFor}
 use Rattle.dia_check.proofs.ProgressLemmas.{progress_none}
 use Rattle.dia_check.proofs.CheckLemmas.{nothing_waits}
 
--- no line is judged
+-- No line is judged.
 pub check_none : (c : Circuit) → IsCircuit c → fault_count c < 2 ^ 27 → (k : Checker) → k.keeper ≡ keeper_with c (nothing_kept (fault_count c)) → k.marks ≡ replicate (fault_count c) None → k.from ≡ 0 → k.progress ≡ no_progress → IsReadyFor c k.evidence
     → k.waiting.items ≡ [] → IsCheckOf c [] k
 check_none c circuit few k keeper_is marks_is from_is progress_is ready empty =

@@ -1,4 +1,4 @@
--- Each kind of line: what makes it one more, and what refuses it.
+-- What makes each kind of line one more, and what refuses it.
 use Rattle.std.proofs.Common.{◌≡◌, ◌∙◌, ℕ, ◌+◌, ◌<◌, ◌≤◌, ◌^◌, Bool, true, false, List, [], ◌∷◌, ◌++◌, map, length, get_or, set, Option, None, Some, refl, sym, ap, subst, inl, inr, append_assoc, length-append, arith}
 use Rattle.std.specs.Prelude.{Contains, IsSome, ◌==◌, option_and_then, if◌then◌else◌}
 use Rattle.std.proofs.lemmas.Bool.{cases_eq, eq-eqb}
@@ -54,13 +54,13 @@ same_checker is new keeper_is marks_is from_is progress_is evidence_is = record 
 }
 
 module _ {c : Circuit} {text : Text} {k : Checker} (is : IsCheckOf c text k) where
-  -- no pattern waits where none may stand
+  -- No pattern is waiting if none may come.
   pub none_waits : ¬ ((2 ≤ k.progress.lines) × (k.progress.classes ≡ 0)) → k.waiting.items ≡ []
   none_waits never = none_by k.waiting.items (λ some.
       let place = is.waiting.place some in
       never (omega (arith, place.0, is.is.progress.lines), omega (arith, place.1, is.is.progress.classes)))
 
-  -- a pattern more waits
+  -- One more pattern is waiting.
   pub pattern_waits : (v : List Bool) → ¬ Contains (spelling (Pattern v)) 10 → length v ≡ c.sources → (2 ≤ k.progress.lines) × (k.progress.classes ≡ 0) → length k.waiting.items < LANES → length (text ++ record_line (Pattern v)) ≤ RESULT_LIMIT
       → (new : Checker) → new.keeper ≡ k.keeper → new.marks ≡ k.marks → new.from ≡ k.from → new.progress ≡ k.progress → new.evidence ≡ k.evidence → new.waiting.items ≡ k.waiting.items ++ v ∷ [] → IsCheckOf c (text ++ record_line (Pattern v)) new
   pattern_waits v one width body room short new keeper_is marks_is from_is progress_is evidence_is waiting_is =
@@ -84,7 +84,7 @@ module _ {c : Circuit} {text : Text} {k : Checker} (is : IsCheckOf c text k) whe
         short = short;
       }
 
--- the evidence names the next member
+-- The evidence names the next member.
 pub names_next : {t : ClassTable} {seen : List Record} {given : List (Option Given)} {e : Evidence} → AreGiven t (evidence_in seen) given → NamesOpen t given e → NamesNext t seen e
 names_next {t} {seen} {given} {e} are names = record { member = lowest_is_next t (evidence_in seen) given are e.member names.lowest; partner = names.partner }
 
@@ -107,7 +107,7 @@ module _ {c : Circuit} {text : Text} {k : Checker} (is : IsCheckOf c text k) (no
   some_class : 0 < class_count t
   some_class = omega (arith, is.is.keeper.whole.patterns)
 
-  -- one line more that is no pattern and no evidence
+  -- One more line that is no pattern and no evidence.
   one_more : (r : Record) (q : Progress) → HasSpelling r → length (text ++ record_line r) ≤ RESULT_LIMIT → IsInPlace t is.seen r → IsRightContent c t is.seen r → pattern_of r ≡ None → evidence_of r ≡ None
       → (0 < class_lines (is.seen ++ r ∷ []) → next_member t (evidence_in is.seen) ≡ None) → IsProgress (is.seen ++ r ∷ []) q → IsCheckOf c (text ++ record_line r) (record k { progress = q })
   one_more r q spelled short place content no_pattern no_evidence complete progress =

@@ -1,4 +1,4 @@
--- The lines of a file that were judged, and those that wait.
+-- The lines of a file that were judged, and the waiting ones.
 use Rattle.std.specs.Prelude.{◌≡◌, ◌≤◌, ◌<◌, ◌^◌, ℕ, Bool, List, [], ◌∷◌, ◌++◌, map, length, All, Contains, Option, None, Result, Ok, Err, IsSome, IsTrue, ⊤}
 use Rattle.net_model.specs.Circuit.{Circuit}
 use Rattle.net_model.specs.FaultList.{fault_count}
@@ -23,13 +23,14 @@ use Rattle.dia_check.specs.declared.stop.Stop.TheVariants as stop
 use Rattle.dia_check.specs.declared.checker.Checker.{Checker}
 use Rattle.dia_check.specs.Progress.{IsProgress}
 
--- A checker of evidence is one for the circuit, with an empty pool.
+-- The checker of evidence is for the circuit and has an empty pool.
 pub record IsReadyFor (c : Circuit) (checker : EvidenceChecker) : Type 0 where
   pub circuit : checker.circuit ≡ c
   pub empty : checker.pool.clauses ≡ []
 
--- The records are right lines, and the checker has what they state: their patterns with the table of these, their marks,
--- of which those below a number are all given, and their counts. The checker of evidence is ready.
+-- The records are right lines, and the checker has what they state: their patterns with the table of these, their
+-- marks, the counts, and a number below which each number is a representative or marked. If there is a class line, each
+-- number is. The checker of evidence is ready, and the circuit has fewer than 2^27 faults.
 pub record IsChecker (c : Circuit) (seen : List Record) (k : Checker) : Type 0 where
   pub lines : AreRightLines c seen
   pub circuit : k.keeper.circuit ≡ c
@@ -42,14 +43,16 @@ pub record IsChecker (c : Circuit) (seen : List Record) (k : Checker) : Type 0 w
   pub evidence : IsReadyFor c k.evidence
   pub few : fault_count c < 2 ^ 27
 
--- Patterns may stand behind the records, and have a bit for each source. Of their lines it is left open whether they split a class.
+-- Patterns may come after the records, are at most as many as there are lanes, and have a bit for each source and no LF
+-- in their lines. Whether they split a class is left open.
 pub record AreUnjudged (c : Circuit) (seen : List Record) (waiting : List (List Bool)) : Type 0 where
   pub widths : All (λ v. length v ≡ c.sources) waiting
   pub few : length waiting ≤ LANES
   pub lines : All (λ v. ¬ Contains (spelling (Pattern v)) 10) waiting
   pub place : 0 < length waiting → (2 ≤ length seen) × (class_lines seen ≡ 0)
 
--- The text is that of records and of patterns that wait behind them.
+-- The text has at most as many bytes as the limit allows, and is that of the records seen and of the patterns waiting
+-- after them.
 pub record IsCheckOf (c : Circuit) (text : Text) (k : Checker) : Type 0 where
   pub seen : List Record
   pub is : IsChecker c seen k
@@ -57,25 +60,27 @@ pub record IsCheckOf (c : Circuit) (text : Text) (k : Checker) : Type 0 where
   pub text_is : text ≡ text_of (seen ++ map Pattern k.waiting.items)
   pub short : length text ≤ RESULT_LIMIT
 
+-- The checker is one of some text.
 pub record HasCheck (c : Circuit) (k : Checker) : Type 0 where
   pub text : Text
   pub is : IsCheckOf c text k
 
--- The file is refused, whatever stands behind this text.
+-- The file is refused with this fault, whatever comes after this text.
 pub record IsRefusedText (c : Circuit) (text : Text) (fault : ResultFault) : Type 0 where
   pub refused : (more : Text) → FileRefused c (text ++ more) fault
 
--- The text was judged: it is that of right lines so far, or the file is refused in it.
+-- The text was judged: it is that of right lines so far, or the file is refused in it. If memory is missing, this says
+-- nothing.
 abbrev pub IsJudged : Circuit → Text → Checker → Result (Unit {0}) Stop → Type 0
 IsJudged c text k (Ok x) = IsCheckOf c text k
 IsJudged c text k (Err (stop.Refused fault)) = IsRefusedText c text fault
 IsJudged c text k (Err stop.NoMemory) = ⊤
 
--- A text that comes behind what was judged is judged too, where all of it is within the limit.
+-- A text that comes after what was judged is judged too, if all of it is within the limit.
 pub record JudgesText (c : Circuit) (old new : Checker) (more : Text) (result : Result (Unit {0}) Stop) : Type 0 where
   pub judged : (text : Text) → IsCheckOf c text old → length (text ++ more) ≤ RESULT_LIMIT → IsJudged c (text ++ more) new result
 
--- What waits is judged.
+-- The waiting lines are judged.
 pub record JudgesWaiting (c : Circuit) (old new : Checker) (result : Result (Unit {0}) Stop) : Type 0 where
   pub judged : (text : Text) → IsCheckOf c text old → IsJudged c text new result
 
@@ -94,7 +99,8 @@ pub record IsJudgedWhole (c : Circuit) (text : Text) (k : Checker) : Type 0 wher
   pub none : k.waiting.items ≡ []
   pub ended : IsTrue k.progress.ended
 
--- The file ends behind this text and these bytes: right lines up to the end and no byte more, or it is refused.
+-- The file ends after this text and these bytes: right lines up to the end and no byte more, or it is refused. If
+-- memory is missing, this says nothing.
 abbrev pub IsWholly : Circuit → Text → Text → Checker → Result (Unit {0}) Stop → Type 0
 IsWholly c text rest k (Ok x) = (rest ≡ []) × IsJudgedWhole c text k
 IsWholly c text rest k (Err (stop.Refused fault)) = FileRefused c (text ++ rest) fault

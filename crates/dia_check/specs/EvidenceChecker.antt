@@ -2,7 +2,7 @@
 use Rattle.net_model.specs.Circuit.{Circuit}
 use Rattle.clause_pool.specs.Clauses.{Clauses}
 
--- a circuit, and the pool in which logs are checked
+-- A circuit, and the pool in which logs are checked.
 pub record EvidenceChecker : Type 0 where
   pub circuit : Circuit
   pub pool : Clauses

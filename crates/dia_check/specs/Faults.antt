@@ -1,11 +1,11 @@
--- Which faults of a reader of result files are the shelf's.
+-- Which faults of a reader of result files are those of the shelf.
 use Rattle.std.specs.Prelude.{Result, Ok, Err}
 use Rattle.diag_shelf.specs.declared.shelf.ShelfFault.{ShelfFault}
 use Rattle.diag_shelf.specs.declared.shelf.ShelfFault.TheVariants as shelf
 use Rattle.dia_check.specs.declared.answer.FileFault.{FileFault}
 use Rattle.dia_check.specs.declared.answer.FileFault.TheVariants as file
 
--- the answer as far as the shelf is concerned: that the contents are refused is no fault of it
+-- What is returned, as far as the shelf is concerned: a refusal of the contents is no fault of the shelf.
 abbrev pub as_shelf : {T : Type 0} → Result T FileFault → Result (Unit {0}) ShelfFault
 as_shelf (Ok x) = Ok tt
 as_shelf (Err (file.Result fault)) = Ok tt

@@ -3,7 +3,7 @@ use Rattle.std.specs.Prelude.{◌≡◌, ◌+◌, ℕ, List, [], drop, unwrap_or
 use Rattle.diag_shelf.specs.World.{World}
 use Rattle.result_records.specs.declared.limits.TheConstants.{RESULT_LIMIT}
 
--- the bytes that are left of the opened file
+-- The bytes that are left of the opened file.
 abbrev pub rest_of : World → List ℕ
 rest_of world = unwrap_or world.rest []
 

@@ -1,6 +1,6 @@
 pub mod Faults
 pub mod Left
--- What is known on the way
+-- What is known on the way.
 pub mod Progress
 pub mod EvidenceChecker
 pub mod EvidenceCheckerFields

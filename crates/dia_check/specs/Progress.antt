@@ -13,7 +13,7 @@ use Rattle.dia_check.specs.declared.progress.Progress.{Progress}
 abbrev pub no_progress : Progress
 no_progress = record { lines = 0; budgets = no_budgets; classes = 0; members = 0; marked = none_counted; ended = false }
 
--- with a member line more, that has this mark
+-- One more member line, with this mark.
 abbrev pub with_member : Progress → Mark → Progress
 with_member p mark = record p { lines = p.lines + 1; members = p.members + 1; marked = counted_with p.marked mark }
 
@@ -24,7 +24,8 @@ pub record IsEnded (records : List Record) : Type 0 where
   pub classes : 0 < class_lines records
   pub members : 0 < member_lines records
 
--- The counts, the budgets and whether the end stands are those of the records. The budgets aren't on the first line.
+-- The counts, the budgets and whether the end has come are those of the records. The budgets are within the limits, and
+-- aren't on the first line.
 pub record IsProgress (records : List Record) (p : Progress) : Type 0 where
   pub lines : p.lines ≡ length records
   pub budgets : p.budgets ≡ budgets_in records

@@ -10,37 +10,41 @@ use Rattle.dia_check.specs.declared.stop.Stop.TheVariants as stop
 use Rattle.dia_check.specs.declared.reader.Reader.{Reader}
 use Rattle.dia_check.specs.Checker.{IsCheckOf, IsRefusedText}
 
--- Lines of these bytes were judged, and the others are held.
+-- Lines of these bytes were judged, and the remaining bytes are held.
 pub record IsHeld (c : Circuit) (fed : Text) (r : Reader) : Type 0 where
   pub text : Text
   pub check : IsCheckOf c text r.checker
   pub fed_is : fed ≡ text ++ r.lines
 
--- Each line of these bytes was judged, and those that are held have no LF.
+-- Each line of these bytes was judged, and the held bytes have no LF. The room is what the limit still allows.
 pub record HasJudgedLines (c : Circuit) (fed : Text) (r : Reader) : Type 0 where
   pub held : IsHeld c fed r
   pub one : ¬ Contains r.lines 10
   pub room : length fed + r.room ≡ RESULT_LIMIT
 
--- These bytes were read, and the first line that breaks a rule is known if there is one.
+-- These bytes were read. Each line of them was judged, or the first line that breaks a rule is known.
 pub record IsReading (c : Circuit) (fed : Text) (r : Reader) : Type 0 where
   pub going : r.refused ≡ None → HasJudgedLines c fed r
   pub refused : (fault : ResultFault) → r.refused ≡ Some fault → IsRefusedText c fed fault
 
+-- Lines of some bytes within the limit were judged, and the remaining bytes are held.
 pub record HasHeld (c : Circuit) (r : Reader) : Type 0 where
   pub fed : Text
   pub held : IsHeld c fed r
   pub short : length fed ≤ RESULT_LIMIT
 
+-- Each line of some bytes was judged.
 pub record HasOpen (c : Circuit) (r : Reader) : Type 0 where
   pub fed : Text
   pub is : HasJudgedLines c fed r
 
+-- Some bytes were read.
 pub record HasReading (c : Circuit) (r : Reader) : Type 0 where
   pub fed : Text
   pub is : IsReading c fed r
 
--- Each whole line among these bytes is judged: all are right, or the file is refused.
+-- Each complete line among these bytes is judged: all are right, or the file is refused. If memory is missing, this
+-- says nothing.
 abbrev pub AreTaken : Circuit → Text → Reader → Result (Unit {0}) Stop → Type 0
 AreTaken c fed r (Ok x) = IsHeld c fed r × (¬ Contains r.lines 10)
 AreTaken c fed r (Err (stop.Refused fault)) = IsRefusedText c fed fault
@@ -56,12 +60,12 @@ IsTaken c fed r (Ok x) = HasJudgedLines c fed r
 IsTaken c fed r (Err (stop.Refused fault)) = IsRefusedText c fed fault
 IsTaken c fed r (Err stop.NoMemory) = ⊤
 
--- A piece comes behind the bytes.
+-- A piece that comes after the bytes is judged.
 pub record TakesPiece (c : Circuit) (old new : Reader) (piece : Text) (result : Result (Unit {0}) Stop) : Type 0 where
   pub taken : (fed : Text) → HasJudgedLines c fed old → IsTaken c (fed ++ piece) new result
   pub refused : new.refused ≡ old.refused
 
--- A file is refused whose first bytes these are: with no byte behind them, or whatever stands there if they go beyond the limit.
+-- The text is refused as a whole file, and if it is longer than the limit each file that begins with it is refused.
 pub record IsRefusedEnd (c : Circuit) (fed : Text) (fault : ResultFault) : Type 0 where
   pub whole : FileRefused c fed fault
   pub beyond : RESULT_LIMIT < length fed → IsRefusedText c fed fault

@@ -19,13 +19,14 @@ pub record TakesAll (fed : Text) (old new : World) : Type 0 where
   pub taken : TakesText fed old new
   pub end : (length fed ≡ RESULT_LIMIT + 1) ⊎ (rest_of new ≡ [])
 
+-- The reader has read the rest of the opened file, to its end or to one byte beyond the limit.
 pub record HasRead (c : Circuit) (reader : Reader) (old new : State) : Type 0 where
   pub fed : Text
   pub reading : IsReading c fed reader
   pub few : length fed ≤ RESULT_LIMIT + 1
   pub all : Told old new (TakesAll fed)
 
--- So many bytes were taken so far.
+-- The reader has read `taken` bytes.
 pub record IsReadSoFar (c : Circuit) (taken : ℕ) (reader : Reader) (old new : State) : Type 0 where
   pub fed : Text
   pub reading : IsReading c fed reader

@@ -1,4 +1,4 @@
-//! Why the check of a result file refuses.
+//! Why the check of a result file refuses it.
 
 ghost use Rattle.std.specs.Prelude.{◌≡◌};
 ghost use Rattle.dia_check.specs.Faults.{file_fault};
@@ -12,10 +12,11 @@ use thiserror::Error;
 /// Why a file wasn't accepted.
 #[derive(Clone, Copy, Debug, PartialEq, Eq, Error)]
 pub enum FileFault {
-    /// The file isn't valid: a line breaks a rule.
+    /// The file isn't a valid result: the kind and the line of the first line that breaks a rule or goes beyond the
+    /// limit.
     #[error("the result isn't valid")]
     Result(ResultFault),
-    /// The outside refused to read.
+    /// A read of the shelf failed.
     #[error("a file failed")]
     Failed,
     #[error("out of memory")]

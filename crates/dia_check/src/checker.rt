@@ -1,4 +1,4 @@
-//! The checker of lines.
+//! The checker of lines: the rule of each record, what the lines so far state, and the patterns that are waiting.
 
 ghost use Rattle.std.specs.Prelude.{◌≡◌, ◌≢◌, ◌<◌, ◌+◌, ◌^◌, ◌↔◌, ◌++◌, ◌∷◌, [], ℕ, List, None, Some, Contains, IfOk, OnOk, IsTrue, IsSome, length, slice_set};
 ghost use Rattle.net_model.specs.Circuit.{Circuit};
@@ -29,8 +29,9 @@ use result_records::{BLOCKS_LIMIT, CONFLICTS_LIMIT, CUBES_LIMIT};
 use std::alloc::{AllocError, Global};
 use word_sim::LANES;
 
-// What the lines so far have stated: the patterns with their classes, the marks, of which each below a number is given, and
-// the counts; the checker of evidence; and patterns that wait, so that a block of them is judged at once.
+// What the lines so far have stated: the patterns with their classes, the marks, the number `from` below which each
+// number is a representative or marked, and the counts. Also the checker of evidence, and the waiting patterns, which
+// are judged a block at a time.
 pub(crate) struct Checker<'a> {
     pub keeper: Keeper<'a>,
     pub marks: Marks,
@@ -54,7 +55,7 @@ impl Drop for Checker<'_> {
 }
 
 impl<'a> Checker<'a> {
-    // No line.
+    // Returns a checker before the first line.
     pub(crate) fn start(alloc: Global, subject: &'a Subject<'a>) -> Result<Checker<'a>, AllocError>
         ensures { IfOk result (IsCheckOf subject.now []) }
     {
@@ -68,7 +69,6 @@ impl<'a> Checker<'a> {
         })
     }
 
-    // Judges a line.
     pub(crate) fn judge_line(&mut self, alloc: Global, subject: &Subject, line: &[u8]) -> Judged
         requires check { HasCheck subject.now self.old }
         requires one { ¬ Contains line.now 10 }
@@ -81,7 +81,7 @@ impl<'a> Checker<'a> {
         }
     }
 
-    // Refuses a line that is no record.
+    // Refuses a line that isn't a record.
     fn refuse_line(&mut self, subject: &Subject, line: &[u8]) -> Judged
         requires check { HasCheck subject.now self.old }
         requires one { ¬ Contains line.now 10 }
@@ -103,7 +103,7 @@ impl<'a> Checker<'a> {
         self.judge_next(alloc, subject, entry)
     }
 
-    // Judges the line of a record, behind patterns that wait only where it is one too.
+    // Judges the line of a record. Patterns are waiting only if the record is a pattern too.
     fn judge_next(&mut self, alloc: Global, subject: &Subject, entry: Record) -> Judged
         requires check { HasCheck subject.now self.old }
         requires room { length self.old.waiting.items < LANES }
@@ -125,7 +125,7 @@ impl<'a> Checker<'a> {
         }
     }
 
-    // Judges the patterns that wait, where a record isn't a pattern that can wait behind them.
+    // Judges the waiting patterns, unless the record is a pattern that can wait after them.
     fn make_way(&mut self, subject: &Subject, entry: &Record) -> Judged
         requires check { HasCheck subject.now self.old }
         ensures judged { JudgesWaiting subject.now self.old self.new result }
@@ -139,7 +139,7 @@ impl<'a> Checker<'a> {
         self.flush(subject)
     }
 
-    // Judges the patterns that wait.
+    // Judges the waiting patterns.
     pub(crate) fn flush(&mut self, subject: &Subject) -> Judged
         requires check { HasCheck subject.now self.old }
         ensures judged { JudgesWaiting subject.now self.old self.new result }
@@ -158,7 +158,7 @@ impl<'a> Checker<'a> {
         Ok(())
     }
 
-    // The answer where the next line breaks a rule.
+    // Returns the refusal of the next line for a broken rule of this kind.
     pub(crate) fn refused(&self, kind: ResultKind) -> Stop
         requires { self.now.progress.lines + 1 < 2 ^ 64 }
         ensures { result ≡ Stop.Refused (record { kind = kind; line = self.now.progress.lines + 1 }) }
@@ -169,7 +169,7 @@ impl<'a> Checker<'a> {
         })
     }
 
-    // Lets a pattern wait.
+    // Adds a pattern to the waiting ones, or refuses it if its place or width is wrong.
     fn judge_pattern(&mut self, subject: &Subject, v: Vector) -> Judged
         requires check { HasCheck subject.now self.old }
         requires room { length self.old.waiting.items < LANES }
@@ -187,7 +187,7 @@ impl<'a> Checker<'a> {
         Ok(())
     }
 
-    // Refuses a pattern that hasn't a bit for each source.
+    // Refuses a pattern that doesn't have one bit for each source.
     fn refuse_pattern(&mut self, subject: &Subject, v: &Vector) -> Judged
         requires check { HasCheck subject.now self.old }
         requires one { ¬ Contains (spelling (Pattern v.now)) 10 }
@@ -269,7 +269,8 @@ impl<'a> Checker<'a> {
         }
     }
 
-    // Whether evidence names the lowest number that is neither a representative nor marked, with its representative.
+    // Returns whether the evidence names the lowest number that is neither a representative nor marked, with its
+    // representative.
     fn names_next(&self, evidence: &Evidence) -> bool
         requires whole { length self.now.marks ≡ length self.now.keeper.kept.table.class_of }
         requires begun { (n : ℕ) → n < self.now.from → IsSome (given_mark self.now.keeper.kept.table self.now.marks n) }
@@ -319,7 +320,7 @@ impl<'a> Checker<'a> {
         Ok(())
     }
 
-    // Whether the next class is this one, each number being a representative or marked.
+    // Returns whether this is the next class, with this birth, and each number is a representative or marked.
     fn is_next_class(&self, number: u32, birth: Option<(u32, u32)>) -> bool
         requires whole { length self.now.marks ≡ length self.now.keeper.kept.table.class_of }
         requires begun { (n : ℕ) → n < self.now.from → IsSome (given_mark self.now.keeper.kept.table self.now.marks n) }
@@ -355,7 +356,7 @@ impl<'a> Checker<'a> {
         Ok(())
     }
 
-    // Whether the next number is this one, in this class and with this mark.
+    // Returns whether this is the next number, in this class and with this mark.
     fn is_next_member(&self, numbers: u32, number: u32, class: u32, mark: Mark) -> bool
         requires numbers { numbers ≡ length self.now.keeper.kept.table.class_of }
         requires whole { length self.now.marks ≡ length self.now.keeper.kept.table.class_of }
@@ -389,7 +390,7 @@ impl<'a> Checker<'a> {
         Ok(())
     }
 
-    // Judges the end of the file: the end has to stand, and no bytes behind it.
+    // Judges the end of the file: the end line must have come, and no bytes after it.
     pub(crate) fn end(&mut self, subject: &Subject, rest: &[u8]) -> Judged
         requires check { HasCheck subject.now self.old }
         requires one { ¬ Contains rest.now 10 }
@@ -405,7 +406,7 @@ impl<'a> Checker<'a> {
         Ok(())
     }
 
-    // What the lines state.
+    // Returns what the lines state.
     pub(crate) fn into_checked(self, alloc: Global) -> Result<Checked, AllocError>
         ensures { IfOk result (λ checked. (c : Circuit) (text : Text) → IsJudgedWhole c text self.entry → IsAcceptedText c text checked) }
     {
@@ -434,7 +435,7 @@ impl<'a> Checker<'a> {
     }
 }
 
-// The vectors as a list of their own.
+// Returns the vectors as a list of their own.
 fn listed(alloc: Global, vectors: Vec<Vector>) -> Result<Vectors, AllocError>
     ensures { IfOk result (λ listed. listed ≡ vectors.items) }
 {

@@ -1,4 +1,5 @@
-//! The check of the opened file.
+//! `check`, and `check_subject` for a subject that is lent: the rest of the opened file, to its end or to one byte
+//! beyond the limit.
 
 ghost use Rattle.std.specs.Prelude.{◌≡◌, ℕ, ◌≤◌, ◌<◌, ◌+◌, [], List, IfOk, OnOk, OnErr, IsErrOf, IsTrue, IsSome};
 ghost use Rattle.diag_shelf.specs.Calls.{IsReadCall, Told, OnlyReads, ReadsUpTo};
@@ -21,30 +22,39 @@ use result_file::Checked;
 use result_records::RESULT_LIMIT;
 use std::alloc::Global;
 
-/// Checks the opened file against a circuit: it is accepted exactly where its rest is a valid result. Else the first line
-/// that breaks a rule is answered. The rest is read to its end or to one byte beyond [`RESULT_LIMIT`], whatever is
-/// found in it, so that a failed read comes before a refusal.
+/// Checks the opened file against a circuit. Unless a read fails or memory is missing, accepts it exactly if its rest
+/// is a valid result of at most [`RESULT_LIMIT`] bytes, and otherwise returns `Result` with the kind and the line of
+/// the first line that breaks a rule or goes beyond the limit.
+///
+/// The rest is read to its end or to one byte beyond the limit, whatever is found in it, so that a failed read comes
+/// before a refusal. Returns `Failed` only if the count of read faults rose; on a sure shelf never. If it returns
+/// `NoMemory` on a sure shelf, no count rose. After either, at most one byte more than the limit was read. Nothing
+/// changes but the rest of the opened file and, after either, the count of read faults. What this says of files holds
+/// if the shelf tells its files.
 pub fn check<S: Shelf>(
     alloc: Global,
     circuit: &Circuit,
     shelf: &mut S,
 ) -> Result<Checked, FileFault>
-    // A shelf that tells its files has one that is opened.
+    // A shelf that tells its files has an opened file.
     requires opened { IsTrue (S.state shelf.old).tells → IsSome (S.state shelf.old).world.rest }
 
-    // It is a call that reads: where it answers `Failed` the count of read faults rose, and no other count changed.
+    // The call is one that reads: if it returns `Failed`, the count of read faults rose; the count of write faults
+    // doesn't change.
     ensures call { IsReadCall (as_shelf result) (S.state shelf.old) (S.state shelf.new) }
 
-    // Nothing is changed but the rest of the opened file, which is read to its end or to one byte beyond the limit. After a
-    // failed read or want of memory a beginning of that was read.
+    // Only the rest of the opened file changes. It is read to its end or to one byte beyond the limit. If a read failed
+    // or memory was missing, at most that was read.
     ensures others { Told (S.state shelf.old) (S.state shelf.new) OnlyReads }
     ensures read { OnOk (as_shelf result) (Told (S.state shelf.old) (S.state shelf.new) ReadsRest) }
     ensures err { OnErr (as_shelf result) (Told (S.state shelf.old) (S.state shelf.new) (ReadsUpTo (RESULT_LIMIT + 1))) }
 
-    // Some records are accepted with the answer. Where the shelf tells, their text is the rest of the file.
+    // If a result is returned, some records are accepted with it. If the shelf tells its files, their text is the rest
+    // of the file.
     ensures valid { IfOk result (λ checked. (records : List Record) × IsAccepted circuit.now records checked × Told (S.state shelf.old) (S.state shelf.new) (λ old new. rest_of old ≡ text_of records)) }
 
-    // Some text is refused for the fault that is answered. Where the shelf tells, it is the rest of the file.
+    // Some text is refused for the fault that is returned. If the shelf tells its files, the text is the rest of the
+    // file.
     ensures refused { (fault : ResultFault) → IsErrOf result (FileFault.Result fault) → (text : List ℕ) × FileRefused circuit.now text fault × Told (S.state shelf.old) (S.state shelf.new) (λ old new. rest_of old ≡ text) }
 
     // A sure shelf never fails.
@@ -54,28 +64,32 @@ pub fn check<S: Shelf>(
     check_subject(alloc, &subject, shelf)
 }
 
-/// Checks the opened file against a subject's circuit, as `check` does against a circuit whose faults aren't listed yet.
+/// Checks the opened file against the circuit of `subject`, as `check` does against a circuit whose faults aren't
+/// listed yet. Errors and their effects are those of `check`.
 pub fn check_subject<S: Shelf>(
     alloc: Global,
     subject: &Subject,
     shelf: &mut S,
 ) -> Result<Checked, FileFault>
-    // A shelf that tells its files has one that is opened.
+    // A shelf that tells its files has an opened file.
     requires opened { IsTrue (S.state shelf.old).tells → IsSome (S.state shelf.old).world.rest }
 
-    // It is a call that reads: where it answers `Failed` the count of read faults rose, and no other count changed.
+    // The call is one that reads: if it returns `Failed`, the count of read faults rose; the count of write faults
+    // doesn't change.
     ensures call { IsReadCall (as_shelf result) (S.state shelf.old) (S.state shelf.new) }
 
-    // Nothing is changed but the rest of the opened file, which is read to its end or to one byte beyond the limit. After a
-    // failed read or want of memory a beginning of that was read.
+    // Only the rest of the opened file changes. It is read to its end or to one byte beyond the limit. If a read failed
+    // or memory was missing, at most that was read.
     ensures others { Told (S.state shelf.old) (S.state shelf.new) OnlyReads }
     ensures read { OnOk (as_shelf result) (Told (S.state shelf.old) (S.state shelf.new) ReadsRest) }
     ensures err { OnErr (as_shelf result) (Told (S.state shelf.old) (S.state shelf.new) (ReadsUpTo (RESULT_LIMIT + 1))) }
 
-    // Some records are accepted with the answer. Where the shelf tells, their text is the rest of the file.
+    // If a result is returned, some records are accepted with it. If the shelf tells its files, their text is the rest
+    // of the file.
     ensures valid { IfOk result (λ checked. (records : List Record) × IsAccepted subject.now records checked × Told (S.state shelf.old) (S.state shelf.new) (λ old new. rest_of old ≡ text_of records)) }
 
-    // Some text is refused for the fault that is answered. Where the shelf tells, it is the rest of the file.
+    // Some text is refused for the fault that is returned. If the shelf tells its files, the text is the rest of the
+    // file.
     ensures refused { (fault : ResultFault) → IsErrOf result (FileFault.Result fault) → (text : List ℕ) × FileRefused subject.now text fault × Told (S.state shelf.old) (S.state shelf.new) (λ old new. rest_of old ≡ text) }
 
     // A sure shelf never fails.
@@ -86,10 +100,10 @@ pub fn check_subject<S: Shelf>(
     reader.finish(alloc, subject)
 }
 
-/// How many bytes are looked at at a time.
+/// The most bytes that are looked at in one step.
 pub(crate) const PIECE: usize = 4096;
 
-// Reads the rest of the opened file, up to one byte beyond the limit.
+// Reads the rest of the opened file, to its end or to one byte beyond the limit.
 fn read_rest<S: Shelf>(
     alloc: Global,
     subject: &Subject,
@@ -118,7 +132,7 @@ fn read_rest<S: Shelf>(
     Ok(())
 }
 
-// How many bytes are asked for behind so many.
+// Returns how many bytes to ask for after `taken` bytes.
 fn wanted(taken: u64) -> usize
     requires { taken ≤ RESULT_LIMIT }
     ensures some { 0 < result }

@@ -1,4 +1,5 @@
-//! The check of evidence: whether the roots of its two faults are right, and its proof, by its kind.
+//! `EvidenceChecker`: the roots, the tree and the log of a pair, checked in space and a pool that are kept from pair to
+//! pair.
 
 ghost use Rattle.std.specs.Prelude.{◌≡◌, ◌≢◌, ◌≤◌, ◌<◌, ◌↔◌, [], List, IsTrue, IfOk, OnOk, IsErrOf};
 ghost use Rattle.clause_pool.specs.Clauses.{Clause};
@@ -24,8 +25,8 @@ use result_file::{Budgets, Evidence, Proof};
 use std::alloc::{AllocError, Global};
 use std::marker::Model;
 
-// Checks evidence about the faults of a circuit, one piece after another. What a piece takes is made for the first that needs
-// it and kept for those that follow, so that each costs what its two faults reach.
+// Checks evidence about the faults of a circuit, one after another. What a check needs is made for the first evidence
+// that needs it and kept for the others, so that the cost of each depends on what its two faults reach.
 #[derive(Drop)]
 pub(crate) struct EvidenceChecker<'a> {
     alloc: Global,
@@ -47,7 +48,7 @@ impl<'a> Model for EvidenceChecker<'a> {
 }
 
 impl<'a> EvidenceChecker<'a> {
-    // The checker of evidence about faults of a circuit. Its pool is empty.
+    // Returns a checker for the faults of `circuit` with an empty pool.
     pub(crate) fn new(
         alloc: Global,
         circuit: &'a Circuit,
@@ -64,8 +65,9 @@ impl<'a> EvidenceChecker<'a> {
         })
     }
 
-    // Checks the proof of evidence within the budgets. The pool is empty, and whatever is answered it is so again, with no fewer
-    // places. Where the proof isn't right, the answer has the rule that it breaks, and the token or chain that breaks it.
+    // Checks the proof of evidence within the budgets. The pool must be empty; after the call it is empty again,
+    // whatever is returned, and has no fewer places. Returns `Refused` if the proof isn't right, with the rule that it
+    // breaks, and the token or chain that breaks it.
     pub(crate) fn check(
         &mut self,
         subject: &Subject,
@@ -88,7 +90,7 @@ impl<'a> EvidenceChecker<'a> {
         self.check_proof(&f, &g, budgets, &evidence.proof)
     }
 
-    // The same for two faults.
+    // Checks a proof for two faults, as `check` does.
     fn check_proof(
         &mut self,
         f: &Fault,
@@ -123,7 +125,7 @@ impl<'a> EvidenceChecker<'a> {
         }
     }
 
-    // Checks a tree, and then a log over the miter of two faults.
+    // Checks a tree, and then a log over the miter of the two faults.
     fn check_pair(
         &mut self,
         f: &Fault,
@@ -152,7 +154,7 @@ impl<'a> EvidenceChecker<'a> {
         self.check_clauses(f, g, kind, budgets.conflicts, log)
     }
 
-    // Checks a log over the miter of two faults.
+    // Checks a log over the miter of the two faults.
     fn check_clauses(
         &mut self,
         f: &Fault,
@@ -182,7 +184,7 @@ impl<'a> EvidenceChecker<'a> {
         checked
     }
 
-    // The space for a miter: the kept one where there is one.
+    // Returns the space for a miter: the kept one if there is one, else a new one.
     fn space(&mut self) -> Result<MiterSpace<'a>, AllocError>
         ensures space { IfOk result (λ space. space ≡ self.old.circuit) }
         ensures same { self.new ≡ self.old }
@@ -194,7 +196,8 @@ impl<'a> EvidenceChecker<'a> {
     }
 }
 
-// Whether the roots of the two faults of evidence are as its proof asks: the same for a proof by collapse alone.
+// Returns whether the roots of the two faults are as the proof needs them: equal for a proof by collapse, different for
+// any other.
 pub(crate) fn has_right_roots(subject: &Subject, evidence: &Evidence) -> bool
     requires member { evidence.now.member < fault_count subject.now }
     requires partner { evidence.now.partner < fault_count subject.now }
@@ -207,7 +210,8 @@ pub(crate) fn has_right_roots(subject: &Subject, evidence: &Evidence) -> bool
     }
 }
 
-// Whether a log is right over any clauses, so that none need be built for it: it has no chains, and spends a budget of none.
+// Returns true only if the log is right over any clauses, so that none have to be built for it: the evidence is spent,
+// the budget is 0, and the log has no chains.
 fn needs_no_clauses(kind: EvidenceKind, conflicts: u32, log: &Log) -> bool
     ensures { IsTrue result → (clauses : List Clause) → IsRightLog kind clauses conflicts log.now }
 {

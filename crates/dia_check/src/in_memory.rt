@@ -1,4 +1,4 @@
-//! The check of a text in memory.
+//! `check_subject_text`: the check of a text in memory. Only the lines of one piece are copied at a time.
 
 ghost use Rattle.std.specs.Prelude.{[], IfOk, OnOk, IsErrOf};
 ghost use Rattle.result_file.specs.declared.fault.ResultFault.{ResultFault};
@@ -9,26 +9,13 @@ use crate::answer::FileFault;
 use crate::checking::PIECE;
 use crate::reader::Reader;
 use fault_collapse::Subject;
-use net_model::Circuit;
 use result_file::Checked;
 use std::alloc::{AllocError, Global};
 
-/// Checks a text against a circuit, as `check` does the opened file: it is accepted exactly where it is a valid result, of at most
-/// `RESULT_LIMIT` bytes. Else the first line that breaks a rule is answered.
-pub fn check_text(alloc: Global, circuit: &Circuit, text: &[u8]) -> Result<Checked, FileFault>
-    ensures valid { IfOk result (IsAcceptedText circuit.now text.now) }
-
-    // Where the text goes beyond the limit, so is each file that begins with it.
-    ensures refused { (fault : ResultFault) → IsErrOf result (FileFault.Result fault) → IsRefusedEnd circuit.now text.now fault }
-
-    // No file is read.
-    ensures never { ¬ IsErrOf result FileFault.Failed }
-{
-    let subject = Subject::new(alloc, circuit)?;
-    check_subject_text(alloc, &subject, text)
-}
-
-/// Checks a text against a subject's circuit, as `check_text` does against a circuit whose faults aren't listed yet.
+/// Checks a text against a circuit, as `check` does with the opened file. Unless memory is missing, accepts it exactly
+/// if it is a valid result of at most `RESULT_LIMIT` bytes, and otherwise returns `Result` with the kind and the line
+/// of the first line that breaks a rule or goes beyond the limit. If the text is longer than the limit, each file that
+/// begins with it is refused in the same way. Returns `NoMemory` if memory is missing, and never `Failed`.
 pub fn check_subject_text(
     alloc: Global,
     subject: &Subject,
@@ -36,7 +23,7 @@ pub fn check_subject_text(
 ) -> Result<Checked, FileFault>
     ensures valid { IfOk result (IsAcceptedText subject.now text.now) }
 
-    // Where the text goes beyond the limit, so is each file that begins with it.
+    // If the text goes beyond the limit, each file that begins with it is refused too.
     ensures refused { (fault : ResultFault) → IsErrOf result (FileFault.Result fault) → IsRefusedEnd subject.now text.now fault }
 
     // No file is read.
@@ -47,7 +34,7 @@ pub fn check_subject_text(
     reader.finish(alloc, subject)
 }
 
-// Has a text read piece by piece, so that only the lines of one piece are copied at a time.
+// Feeds the text to the reader piece by piece, so that only the lines of one piece are copied at a time.
 fn feed_text(
     alloc: Global,
     subject: &Subject,

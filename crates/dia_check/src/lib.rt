@@ -1,4 +1,5 @@
-//! The check of a result file: it is read in pieces and taken line by line, and accepted exactly where it is valid.
+//! The check of a result file: it reads the file in pieces, judges it line by line, and accepts it exactly if it is
+//! valid.
 #![tactic(auto)]
 
 mod answer;
@@ -12,5 +13,5 @@ mod stop;
 
 pub use answer::FileFault;
 pub use checking::{check, check_subject};
-pub use in_memory::{check_subject_text, check_text};
+pub use in_memory::check_subject_text;
 pub use result_file::Checked;

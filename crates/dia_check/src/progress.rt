@@ -1,4 +1,4 @@
-//! What the lines of a result have stated so far.
+//! The counts of lines, classes and members, and the budgets that the lines so far have stated.
 
 ghost use Rattle.std.specs.Prelude.{◌≡◌, ◌<◌, ◌≤◌, ◌+◌, ◌^◌, ◌↔◌, IsTrue};
 ghost use Rattle.dia_check.specs.Progress.{no_progress, with_member};
@@ -6,8 +6,8 @@ ghost use Rattle.dia_check.specs.Progress.{no_progress, with_member};
 use member_marks::MarkCounts;
 use result_file::{Budgets, Mark};
 
-// How many lines there are, the budgets, how many class lines and member lines, how many members are marked equal and
-// left open, and whether the end stands.
+// The counts of lines, class lines and member lines, of members marked equal and left open, the budgets, and whether
+// the end line has come.
 #[derive(Clone, Copy)]
 pub(crate) struct Progress {
     pub lines: u64,
@@ -25,7 +25,7 @@ const NO_BUDGETS: Budgets = Budgets {
 };
 
 impl Progress {
-    // No line.
+    // Returns the progress before the first line.
     pub(crate) fn none() -> Progress
         ensures { result ≡ no_progress }
     {
@@ -39,14 +39,14 @@ impl Progress {
         }
     }
 
-    // Whether patterns and evidence may stand.
+    // Returns whether patterns and evidence may come next.
     pub(crate) fn is_body(&self) -> bool
         ensures { IsTrue result ↔ ((2 ≤ self.now.lines) × (self.now.classes ≡ 0)) }
     {
         self.lines >= 2 && self.classes == 0
     }
 
-    // One class line more.
+    // Counts one more class line.
     pub(crate) fn add_class(&mut self)
         requires lines { self.old.lines + 1 < 2 ^ 64 }
         requires classes { self.old.classes + 1 < 2 ^ 32 }
@@ -56,7 +56,7 @@ impl Progress {
         self.classes += 1;
     }
 
-    // One member line more, with this mark.
+    // Counts one more member line with this mark.
     pub(crate) fn add_member(&mut self, mark: Mark)
         requires lines { self.old.lines + 1 < 2 ^ 64 }
         requires members { self.old.members + 1 < 2 ^ 32 }

@@ -1,4 +1,4 @@
-//! The reader of lines out of pieces.
+//! The reader of pieces of the file, and of the lines in them.
 
 ghost use Rattle.std.specs.Prelude.{◌≡◌, ◌≤◌, ◌++◌, [], min, length, IfOk, OnOk, IsErrOf};
 ghost use Rattle.result_file.specs.declared.fault.ResultFault.{ResultFault};
@@ -14,8 +14,8 @@ use result_file::{Checked, Lines, ResultFault, ResultKind};
 use result_records::RESULT_LIMIT;
 use std::alloc::{AllocError, Global};
 
-// The checker of the lines so far, the bytes behind them, how many bytes there may still be, and the first line that breaks
-// a rule, behind which nothing is looked at.
+// The checker of the lines so far, the bytes after them, the number of bytes still allowed, and the first line that
+// breaks a rule. Nothing after that line is looked at.
 pub(crate) struct Reader<'a> {
     pub checker: Checker<'a>,
     pub lines: Lines,
@@ -23,7 +23,7 @@ pub(crate) struct Reader<'a> {
     pub refused: Option<ResultFault>,
 }
 
-// Written out, it is one step in the proof of each function that lets a reader go.
+// Written by hand so that a drop of a reader is one step in the proof of each function that drops one.
 impl Drop for Reader<'_> {
     fn drop(self) {
         let Reader {
@@ -36,7 +36,7 @@ impl Drop for Reader<'_> {
 }
 
 impl<'a> Reader<'a> {
-    // No byte.
+    // Returns a reader before the first byte.
     pub(crate) fn start(alloc: Global, subject: &'a Subject<'a>) -> Result<Reader<'a>, AllocError>
         ensures { IfOk result (IsReading subject.now []) }
     {
@@ -48,7 +48,7 @@ impl<'a> Reader<'a> {
         })
     }
 
-    // Reads a piece that comes behind all before it.
+    // Reads a piece that comes after all read before.
     pub(crate) fn feed(
         &mut self,
         alloc: Global,
@@ -71,7 +71,7 @@ impl<'a> Reader<'a> {
         }
     }
 
-    // Takes the lines of a piece, up to the limit of bytes.
+    // Judges the lines of a piece, up to the limit of bytes.
     fn take_piece(&mut self, alloc: Global, subject: &Subject, piece: &[u8]) -> Judged
         requires { HasOpen subject.now self.old }
         ensures { TakesPiece subject.now self.old self.new piece.now result }
@@ -87,7 +87,7 @@ impl<'a> Reader<'a> {
         Ok(())
     }
 
-    // How many of so many bytes are within the limit.
+    // Returns how many of `count` bytes are within the limit.
     fn inside(&self, count: usize) -> usize
         ensures { result ≡ min count self.now.room }
     {
@@ -98,7 +98,7 @@ impl<'a> Reader<'a> {
         }
     }
 
-    // Judges each line that is whole.
+    // Judges each complete line.
     fn take_lines(&mut self, alloc: Global, subject: &Subject) -> Judged
         requires { HasHeld subject.now self.old }
         ensures { TakesLines subject.now self.old self.new result }
@@ -109,7 +109,7 @@ impl<'a> Reader<'a> {
         Ok(())
     }
 
-    // What was read, as the whole of a file.
+    // Returns what was read as the whole of a file, or why it is refused.
     pub(crate) fn finish(self, alloc: Global, subject: &Subject) -> Result<Checked, FileFault>
         requires { HasReading subject.now self }
         ensures valid { IfOk result (λ checked. (fed : Text) → IsReading subject.now fed self.entry → (length fed ≤ RESULT_LIMIT) × IsAcceptedText subject.now fed checked) }

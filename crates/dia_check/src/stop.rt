@@ -1,4 +1,4 @@
-//! Why lines aren't looked at any further.
+//! What the judgement of a line returns, and why no further line is judged.
 
 ghost use Rattle.std.specs.Prelude.{◌≡◌};
 ghost use Rattle.dia_check.specs.declared.stop.Stop.TheVariants as stop;
@@ -6,7 +6,7 @@ ghost use Rattle.dia_check.specs.declared.stop.Stop.TheVariants as stop;
 use result_file::ResultFault;
 use std::alloc::AllocError;
 
-// A line breaks a rule, or there is no memory.
+// A line breaks a rule, or memory is missing.
 #[derive(Clone, Copy)]
 pub(crate) enum Stop {
     Refused(ResultFault),
@@ -21,5 +21,4 @@ impl From<AllocError> for Stop {
     }
 }
 
-// What the judgement of lines answers.
 pub(crate) type Judged = Result<(), Stop>;

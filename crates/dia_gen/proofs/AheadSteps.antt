@@ -1,4 +1,4 @@
--- A draft that looks at a block of a cube.
+-- A draft that looks at a block of the vectors of a cube.
 use Rattle.std.proofs.Common.{◌≡◌, ◌∙◌, Bool, List, ◌++◌, Option, sym, subst}
 use Rattle.diag_shelf.specs.World.{State}
 use Rattle.net_model.specs.declared.fault.Fault.{Fault}
@@ -15,7 +15,7 @@ use Rattle.dia_gen.specs.Settled.{AreApartBy, IsSpaceFor}
 use Rattle.dia_gen.specs.Draft.{IsDrafted, IsDraft}
 
 module _ {s : GenerationSetting} {d : Draft} {f g : Fault} {cube : List (Option Bool)} (apart : AreApartBy s.circuit f g s.budgets cube) where
-  -- a block of the cube is looked at
+  -- The draft stays right if a block of the cube is looked at.
   drafted_looked : {kept : List (List Bool)} {later : List Record} (space : PairSpace) → IsSpaceFor s.circuit s.budgets space → (keeper : Keeper) → keeper.circuit ≡ d.keeper.circuit → keeper.kept ≡ d.keeper.kept → (v : List Bool) → IsOfCube cube v
       → IsDrafted s d kept later → IsDrafted s (record d { keeper = keeper; space = space }) kept later
   drafted_looked {kept} {later} space is_space keeper circuit kept_is v of is = record {

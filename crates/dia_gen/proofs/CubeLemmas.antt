@@ -23,7 +23,7 @@ module _ (v : List Bool) (lines : List ℕ) (at : ℕ) (cube : List (Option Bool
   more : take (at + 1) lines ≡ take at lines ++ line ∷ []
   more = take_more lines at 0 inside
 
-  -- a source more
+  -- The next line is a source.
   pub bits_more : length cube ≡ length v → line < length v → HasLineBits v (take (at + 1) lines) (set cube line (Some (bit_at v line)))
   bits_more width within k below m =
       elim (cases_eq k line) [
@@ -35,7 +35,7 @@ module _ (v : List Bool) (lines : List ℕ) (at : ℕ) (cube : List (Option Bool
             ]
       ]
 
-  -- a line that is no source
+  -- The next line is no source.
   pub bits_same : length v ≤ line → HasLineBits v (take (at + 1) lines) cube
   bits_same beyond k below m =
       elim (Contains-push_cases (take at lines) line k (subst (λ (xs : List ℕ). Contains xs k) more m)) [
@@ -43,7 +43,7 @@ module _ (v : List Bool) (lines : List ℕ) (at : ℕ) (cube : List (Option Bool
         | inr here ↦ absurd (omega (arith, here, below, beyond))
       ]
 
--- so it has at each relevant source, where the lines are the relevant ones
+-- The cube has the vector's bits at each relevant source if the lines are the relevant ones.
 pub relevant_bits : (c : Circuit) (f g : Fault) (v : List Bool) (lines : List ℕ) (cube : List (Option Bool)) → lines ≡ relevant_lines c f g → length v ≤ line_count c → HasLineBits v lines cube → HasRelevant c f g v cube
 unfolding relevant_lines
 relevant_bits c f g v lines cube are few has source below relevant =

@@ -1,4 +1,4 @@
--- The lines of a draft: at first, and with one line more.
+-- The lines of a draft: the first ones, and one line more.
 use Rattle.std.proofs.Common.{◌≡◌, ℕ, zero, suc, ◌<◌, ◌≤◌, ◌^◌, Bool, false, cond, List, [], ◌∷◌, ◌++◌, map, length, length-append, Some, refl, sym, ap, subst, ◌∙◌, inl, inr, arith, IsTrue}
 use Rattle.std.specs.Prelude.{All, ◌⊎◌}
 use Rattle.std.specs.List.{slice_get, count_by}
@@ -28,7 +28,7 @@ use Rattle.dia_gen.specs.Draft.{AreDraftLines, IsDrafted}
 use Rattle.text_fields.specs.Fields.{Text}
 use Rattle.dia_gen.specs.Made.{head_lines, lines_with, SeparatesNext, HasNoSearch, HasNoRefutation}
 
--- what waits is no part of what the lines are made from
+-- Another waiting text doesn't change what the lines are made from.
 pub drafted_on : {s : GenerationSetting} {d : Draft} {kept : List (List Bool)} {later : List Record} (wait : Text) → IsDrafted s d kept later → IsDrafted s (record d { gathered = wait }) kept later
 drafted_on wait is = record {
   first = is.first;
@@ -56,7 +56,7 @@ last_cases (z ∷ xs) x y (suc at) there = elim (last_cases xs x y at there) [
 one_of : {X : Type 0} (P : X → Type 0) (x : X) → P x → All P (x ∷ [])
 one_of P x is k d below = let e : k ≡ 0 = omega arith in rw e is
 
--- no line of a body passes a test that takes neither patterns nor evidence
+-- No line of a body passes a test that takes neither patterns nor evidence.
 body_count : (p : Record → Bool) → ((v : List Bool) → p (Pattern v) ≡ false) → ((e : Evidence) → p (Same e) ≡ false) → (later : List Record) → All (λ r. IsTrue (is_body_record r)) later → count_by p later ≡ 0
 body_count p patterns evidence [] all = refl
 body_count p patterns evidence (r ∷ later) all =
@@ -97,7 +97,7 @@ module _ (c : Circuit) (budgets : Budgets) (kept : List (List Bool)) where
     pub lines_more : (r : Record) → lines_with c budgets kept (later ++ r ∷ []) ≡ lines_with c budgets kept later ++ r ∷ []
     lines_more r = sym (append_assoc before later (r ∷ []))
 
-    -- one line more
+    -- One line more.
     pub draft_more : AreDraftLines c budgets kept later → (r : Record) → IsNextLine c (lines_with c budgets kept later) r → IsTrue (is_body_record r)
         → ((v : List Bool) → r ≡ Pattern v → SeparatesNext c (lines_with c budgets kept later) v × (budgets.cubes ≡ 0 → budgets.conflicts ≡ 0 → ⊥))
         → ((e : Evidence) → r ≡ Same e → (budgets.cubes ≡ 0 → HasNoSearch e.proof) × (budgets.conflicts ≡ 0 → HasNoRefutation e.proof))
@@ -130,7 +130,7 @@ module _ (c : Circuit) (budgets : Budgets) (kept : List (List Bool)) where
       no_class : class_lines (lines_with c budgets kept later) ≡ 0
       no_class = lines_count is_class (λ v. refl) (λ e. refl) refl so_far.body
 
-      -- evidence for the next number
+      -- Evidence for the next number.
       pub evidence_added : (e : Evidence) → e.member < fault_count c → e.partner < fault_count c → next_member t (evidence_in later) ≡ Some e.member → e.partner ≡ representative t (class_at t e.member)
           → IsProofFor c budgets e.partner e.member e.proof → AreDraftLines c budgets kept (later ++ Same e ∷ [])
       evidence_added e member partner next lead right =
@@ -149,7 +149,7 @@ module _ (c : Circuit) (budgets : Budgets) (kept : List (List Bool)) where
           same_evidence : (e x : Evidence) → Same e ≡ Same x → e ≡ x
           same_evidence e x is = cc
 
-      -- a pattern that tells the next number from its representative
+      -- A pattern that separates the next number from its representative.
       pub pattern_added : (v : List Bool) (member : ℕ) → next_member t (evidence_in later) ≡ Some member → IsApartBy c (fault_numbered c (representative t (class_at t member))) (fault_numbered c member) budgets v → SplitsClass c (kept ++ patterns_in later) v
           → AreDraftLines c budgets kept (later ++ Pattern v ∷ [])
       pattern_added v member next apart right =
@@ -166,7 +166,7 @@ module _ (c : Circuit) (budgets : Budgets) (kept : List (List Bool)) where
           same_pattern : (v w : List Bool) → Pattern v ≡ Pattern w → v ≡ w
           same_pattern v w is = cc
 
-  -- the kept vectors alone
+  -- The kept vectors alone.
   pub draft_first : c.sources < 2 ^ 32 → length c.positions < 2 ^ 32 → fault_count c < 2 ^ 27 → AreWithinLimits budgets → SplitInTurn c kept → AreDraftLines c budgets kept []
   draft_first sources positions few limits right =
       let two : 2 ≤ length (head_lines c budgets) = omega arith in

@@ -1,4 +1,5 @@
--- A draft in which each number is marked, with the lines of its classes and numbers and the end: the generator may write it, and it is true.
+-- A draft in which each number is marked, with the lines of its classes and numbers and the end, is a file that the
+-- generator may write and that is true.
 use Rattle.std.proofs.Common.{◌≡◌, ℕ, ◌<◌, ◌^◌, Bool, false, cond, List, [], ◌∷◌, ◌++◌, map, length, get_or, Option, Some, None, refl, sym, ap, ◌∙◌, arith, IsTrue}
 use Rattle.std.specs.Prelude.{All, unwrap_or, IsSome}
 use Rattle.std.specs.List.{slice_get, count_by, enumerate_from}
@@ -57,7 +58,7 @@ some_mark : (o : Option Mark) → IsSome o → o ≡ Some (unwrap_or o Rep)
 some_mark None some = absurd (cc)
 some_mark (Some m) some = refl
 
--- one end behind other records
+-- One end after other records.
 pub count_end : (p : Record → Bool) (rs : List Record) → p End ≡ false → count_by p (rs ++ End ∷ []) ≡ count_by p rs
 count_end p rs refused =
     let e : ◌≡◌ {A = ℕ} (cond (p End) 1 0) 0 = ap (λ (b : Bool). cond {A = ℕ} b 1 0) refused in
@@ -149,7 +150,7 @@ module _ (c : Circuit) (budgets : Budgets) (kept : List (List Bool)) (later : Li
     abbrev before : List Record
     before = lines_with c budgets kept later
 
-    -- no line before the member lines passes a test that takes member lines alone
+    -- No line before the member lines passes a test that takes only member lines.
     count_tabled : (p : Record → Bool) → count_by p (head_lines c budgets) ≡ 0 → ((v : List Bool) → p (Pattern v) ≡ false) → ((e : Evidence) → p (Same e) ≡ false) → ((x : ℕ × Option (ℕ × ℕ)) → p (Class x.0 x.1) ≡ false) → count_by p (before ++ classes) ≡ 0
     count_tabled p none pattern same class = count_kept (λ x. Class x.0 x.1) before p class (enumerate_from 0 t.births) ∙ lines_count c budgets kept later p pattern same none lines.body
 

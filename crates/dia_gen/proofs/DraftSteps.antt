@@ -39,11 +39,11 @@ use Rattle.member_marks.proofs.MarkLemmas.{lowest_is_next, lead_inside, given_ri
 use Rattle.dia_gen.proofs.DraftLemmas.{lines_more, pattern_added, evidence_added, drafted_on}
 use Rattle.dia_gen.proofs.WritingLemmas.{gathered_then, broken, broken_here, stopped}
 
--- where there is no memory the lines so far are written
+-- If memory is missing, the lines so far are written.
 pub draft_broken : {s : GenerationSetting} {d : Draft} {start now : State} → IsDraft s d start now → BrokeOff s.circuit NoMemory start now
 draft_broken {s} d = broken_here (lines_with s.circuit s.budgets d.kept d.later) d.is.lines.right d.written
 
--- the lines with one line more, and none behind it
+-- The lines with one line more, and none after it.
 pub one_right : (s : GenerationSetting) (kept : List (List Bool)) (later : List Record) (r : Record) → AreDraftLines s.circuit s.budgets kept (later ++ r ∷ []) → AreRightLines s.circuit (lines_with s.circuit s.budgets kept later ++ r ∷ [] ++ [])
 one_right s kept later r lines = subst (AreRightLines s.circuit) (lines_more s.circuit s.budgets kept later r ∙ sym (append-nil (lines_with s.circuit s.budgets kept later ++ r ∷ []))) lines.right
 
@@ -66,7 +66,7 @@ module _ {s : GenerationSetting} {d : Draft} {wait : Text} {start mid now : Stat
   line_stopped (Err fault) wrote = broken (lines_with s.circuit s.budgets kept later) (r ∷ []) [] (one_right s kept later r drafted.lines) written wrote
 
 module _ {s : GenerationSetting} {d : Draft} {start now : State} (draft : IsDraft s d start now) where
-  -- what waits is written, or its writing broke off
+  -- The waiting text is written, or its writing broke off.
   pub draft_written : {after : Text} {later : State} (result : Result (Unit {0}) ShelfFault) → Gathers [] result d.gathered after now later → OnOk result (IsDraft s (record d { gathered = after }) start later)
   draft_written {after} {later} (Ok x) wrote = record {
     kept = draft.kept;
@@ -93,13 +93,13 @@ module _ {s : GenerationSetting} {d : Draft} {kept : List (List Bool)} {later : 
   pub inside_kept : member < fault_count d.keeper.circuit
   inside_kept = subst (λ (c : Circuit). member < fault_count c) (sym is.circuit) inside
 
-  -- a vector of the block that is looked at is found within the budgets
+  -- A vector of the block that is looked at is found within the budgets.
   pub looked_apart : (v : List Bool) → Contains d.keeper.looked v → SeparatesMember d.keeper.circuit d.keeper.kept.table member v → IsApartBy s.circuit (fault_numbered s.circuit lead) (fault_numbered s.circuit member) s.budgets v
   looked_apart v there separates =
       let now = subst (λ (c : Circuit). SeparatesMember c d.keeper.kept.table member v) is.circuit separates in
       record { budget = is.looked v there; width = now.width; separates = now }
 
-  -- a kept vector that separates the lowest open number from its representative
+  -- A kept vector that separates the lowest open number from its representative.
   module _ (v : List Bool) (apart : IsApartBy s.circuit (fault_numbered s.circuit lead) (fault_numbered s.circuit member) s.budgets v) (keeper : Keeper) (keeps : Keeps d.keeper.circuit (v ∷ []) d.keeper.kept keeper.kept) where
     added : IsAdded s.circuit v d.keeper.kept keeper.kept
     added =
@@ -109,7 +109,7 @@ module _ {s : GenerationSetting} {d : Draft} {kept : List (List Bool)} {later : 
     pub more_classes : class_count d.keeper.kept.table < class_count keeper.kept.table
     more_classes = added.more
 
-    -- it stands behind the others
+    -- The vector is the last of those kept.
     last_added : (vectors : List (List Bool)) → vectors ≡ keeper.kept.vectors → get_or vectors (length vectors - 1) [] ≡ v
     last_added vectors is =
         let now : vectors ≡ d.keeper.kept.vectors ++ v ∷ [] = is ∙ added.vectors in
@@ -139,7 +139,7 @@ module _ {s : GenerationSetting} {d : Draft} {kept : List (List Bool)} {later : 
           looked = rw looked is.looked;
         }
 
-    -- its line is made, or the draft is broken off
+    -- The line of the vector is made, or the draft is broken off.
     pub pattern_written : keeper.circuit ≡ d.keeper.circuit → keeper.looked ≡ d.keeper.looked → {after : Text} {start mid now : State} → HasGathered (text_of (lines_with s.circuit s.budgets kept later)) [] d.gathered start mid → (vectors : List (List Bool)) → vectors ≡ keeper.kept.vectors
         → (result : Result (Unit {0}) ShelfFault) → Gathers (text_of (Pattern (get_or vectors (length vectors - 1) []) ∷ [])) result d.gathered after mid now → OnOk result (IsDraft s (record d { keeper = keeper; gathered = after }) start now) × IfErr result (λ fault. BrokeOff s.circuit fault start now)
     pattern_written circuit looked {after} written vectors vectors_are result wrote =
@@ -147,7 +147,7 @@ module _ {s : GenerationSetting} {d : Draft} {kept : List (List Bool)} {later : 
         let line = rw (last_added vectors vectors_are) at wrote in
         (line_drafted kept later (Pattern v) drafted written result line, line_stopped kept later (Pattern v) drafted written result line)
 
-  -- evidence for the lowest open number with its representative
+  -- Evidence for the lowest open number with its representative.
   module _ (proof : Proof) (number : ℕ) (lead_is : number ≡ lead) (right : IsProofFor s.circuit s.budgets number member proof) where
     abbrev pub evidence_for : Evidence
     evidence_for = record { member = member; partner = number; proof = proof }

@@ -1,4 +1,4 @@
--- The lines of the classes and of the numbers, behind a draft in which each number is marked.
+-- The lines of the classes and of the numbers, after a draft in which each number is marked.
 use Rattle.std.proofs.Common.{◌≡◌, ◌∙◌, List, [], ◌∷◌, ◌++◌, map, length, Ok, Err, refl, sym, ap, subst, append_assoc}
 use Rattle.std.proofs.lemmas.List.{append-nil}
 use Rattle.diag_shelf.specs.World.{State}
@@ -25,15 +25,15 @@ use Rattle.dia_gen.specs.Draft.{IsDraft}
 use Rattle.dia_gen.proofs.WritingLemmas.{gathered_then, broken, stopped}
 use Rattle.dia_gen.proofs.DraftResult.{stated, result_right, result_valid, result_true, result_summary}
 
--- what the table and the counts of marks amount to
+-- The summary of a table and the counts of marks.
 abbrev pub summary_with : ClassTable → MarkCounts → Summary
 summary_with t marked = record { numbers = length t.class_of; patterns = t.patterns; classes = class_count t; equal = marked.equal; spent = marked.spent }
 
--- more lines came
+-- More lines were added.
 pub lines_then : (lines more : List Record) {before mid after : Text} {start between now : State} {x : Unit {0}} → HasGathered (text_of lines) before mid start between → Gathers (text_of more) (Ok x) mid after between now → HasGathered (text_of (lines ++ more)) before after start now
 lines_then lines more {before} {mid} {after} {start} {between} {now} h w = subst (λ (t : Text). HasGathered t before after start now) (sym (text-append lines more)) (gathered_then h w.ok)
 
--- nothing waits, so all is written
+-- Nothing is waiting, so all is written.
 pub all_written : {text mid after : Text} {start between now : State} {x : Unit {0}} → HasGathered text [] mid start between → Gathers [] (Ok x) mid after between now → after ≡ [] → HasWritten text start now
 all_written {text} {mid} {after} {start} {between} {now} h w none =
     let both : HasGathered (text ++ []) [] after start now = gathered_then h w.ok in
@@ -65,7 +65,7 @@ module _ {s : GenerationSetting} {d : Draft} {start now : State} (draft : IsDraf
   pub end_broken : {fault : ShelfFault} {wait after : Text} {mid later : State} → HasGathered (text_of (lines ++ classes ++ members)) [] wait start mid → Gathers (text_of (End ∷ [])) (Err fault) wait after mid later → BrokeOff s.circuit fault start later
   end_broken h w = broken (lines ++ classes ++ members) (End ∷ []) [] (subst (AreRightLines s.circuit) (sym (append-nil (lines ++ classes ++ members ++ End ∷ []))) whole_right) h w
 
-  -- the whole is made, and its writing broke off
+  -- The whole is made, and its writing broke off.
   pub last_broken : {fault : ShelfFault} {wait after : Text} {mid later : State} → HasGathered (text_of (lines ++ classes ++ members ++ End ∷ [])) [] wait start mid → Gathers [] (Err fault) wait after mid later → BrokeOff s.circuit fault start later
   last_broken h w = stopped (lines ++ classes ++ members ++ End ∷ []) whole_right h w
 

@@ -12,15 +12,15 @@ use Rattle.result_records.specs.declared.record.Mark.TheVariants.{Rep}
 use Rattle.member_marks.specs.declared.marks.Given.{Given}
 use Rattle.member_marks.specs.Given.{given_mark, given_to}
 
--- the mark with this representative
+-- The mark of a number with this representative.
 abbrev mark_with : List (Option Given) → ℕ → ℕ → Option Mark
 mark_with given n lead = if lead == n then Some Rep else option_and_then (λ g. if g.partner == lead then Some g.mark else None) (given_to given n)
 
--- a number keeps its mark with its representative
+-- A number keeps its mark if it keeps its representative.
 pub mark_stays : (t u : ClassTable) (given : List (Option Given)) (n : ℕ) → representative u (class_at u n) ≡ representative t (class_at t n) → IsSome (given_mark t given n) → IsSome (given_mark u given n)
 mark_stays t u given n same some = subst (λ (lead : ℕ). IsSome (mark_with given n lead)) (sym same) some
 
--- a representative is marked
+-- A representative is marked.
 pub lead_marked : (t : ClassTable) (given : List (Option Given)) (n : ℕ) → representative t (class_at t n) ≡ n → IsSome (given_mark t given n)
 lead_marked t given n is = subst (λ (lead : ℕ). IsSome (mark_with given n lead)) (sym is) (grind arith)
 
@@ -28,14 +28,14 @@ module _ (t : ClassTable) (whole : IsWhole t) (n : ℕ) (below : n < length t.cl
   abbrev group : List ℕ
   group = members t (class_at t n)
 
-  -- where it is among the members of its class
+  -- The place of the number among the members of its class.
   place : Contains group n
   place = members-contains t n below
 
   there : get_or group place.0 0 ≡ n
   there = sym (get_or_default_zero group place.0 n place.1) ∙ place.2
 
-  -- the first member is the representative
+  -- The first member is the representative.
   first_leads : get_or group 0 0 ≡ n → representative t (class_at t n) ≡ n
   first_leads is =
       let lead = representative t (class_at t n) in
@@ -51,11 +51,11 @@ module _ (t : ClassTable) (whole : IsWhole t) (n : ℕ) (below : n < length t.cl
   at_first : place.0 ≡ 0 → representative t (class_at t n) ≡ n
   at_first e = first_leads (ap (λ (k : ℕ). get_or group k 0) (sym e) ∙ there)
 
-  -- an only member is the representative
+  -- An only member is the representative.
   pub only_leads : length group ≤ 1 → representative t (class_at t n) ≡ n
   only_leads few = let inside = place.1 in at_first (omega arith)
 
-  -- and so is one below the second
+  -- A member below the second one is the representative.
   pub below_second_leads : 1 < length group → n < get_or group 1 0 → representative t (class_at t n) ≡ n
   below_second_leads two less = elim (cases_lt 1 place.0) [
     | inl later ↦ absurd (omega (arith, members_ascend t (class_at t n) 1 place.0 0 later place.1, there, less))

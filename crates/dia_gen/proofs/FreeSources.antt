@@ -1,4 +1,4 @@
--- Vectors that agree on the relevant sources of a pair: one separates the pair where the other does.
+-- If two vectors agree on the relevant sources of a pair and one separates the pair, the other does too.
 use Rattle.std.proofs.Common.{◌≡◌, ◌∙◌, ℕ, zero, suc, ◌<◌, Bool, true, false, Option, Some, None, List, length, get_or, refl, sym, ap, arith}
 use Rattle.std.specs.Prelude.{◌||◌, is_some, unwrap_or}
 use Rattle.std.specs.Option.{option_map_or}
@@ -18,7 +18,7 @@ use Rattle.net_model.proofs.ScopeLaws.{same_unsplit}
 use Rattle.net_model.proofs.Relevance.{relevant_back, relevant_shown}
 use Rattle.pair_miter.proofs.Sound.{at_position}
 
--- at a position that isn't reached neither fault is stuck, and the line isn't split
+-- At a position that isn't reached neither fault is stuck, and the line isn't split.
 unreached : (c : Circuit) (f g : Fault) (at : ℕ) → is_reached c f g at ≡ false → (is_split c f g (get_or c.positions at 0) ≡ false) × (is_some (stuck_position f at) ≡ false) × (is_some (stuck_position g at) ≡ false)
 unfolding is_reached
 unreached c f g at none =
@@ -32,7 +32,7 @@ unstuck None bit none = refl
 unstuck (Some b) bit none = absurd (cc)
 
 module _ (c : Circuit) (is : IsCircuit c) (f g : Fault) (v w : List Bool) (same : (source : ℕ) → source < c.sources → is_relevant c f g source ≡ true → bit_at v source ≡ bit_at w source) where
-  -- the bit of a relevant line in two valuations of one copy
+  -- The bit of a relevant line in two valuations of one copy.
   module _ (h : Fault) (x y : List Bool) (a : Agrees c h v x) (b : Agrees c h w y) where
     same_undriven : (line : ℕ) → line < line_count c → is_relevant c f g line ≡ true → (o : Option Gate) → gate_at c line ≡ o
         → option_map_or (λ gate. gate_value gate.kind (seen_bits (stuck_pin h line) y gate.pins)) o (bit_at v line) ≡ option_map_or (λ gate. gate_value gate.kind (seen_bits (stuck_pin h line) y gate.pins)) o (bit_at w line)
@@ -59,7 +59,7 @@ module _ (c : Circuit) (is : IsCircuit c) (f g : Fault) (v w : List Bool) (same 
         ∙ ap (unwrap_or (stuck_position h at)) (same_below (suc (is.acyclic.rank line)) line (omega arith) (is.positions at 0 below) (relevant_shown c f g at below reached))
         ∙ sym (at_position c h y at below)
 
-  -- a position that isn't reached shows the same in both copies
+  -- A position that isn't reached shows the same in both copies.
   alike_unreached : (x y : List Bool) → Agrees c f v x → Agrees c g v y → (at : ℕ) → at < length c.positions → is_reached c f g at ≡ false → bit_at (shown_bits c f x) at ≡ bit_at (shown_bits c g y) at
   alike_unreached x y a b at below none =
       let parts = unreached c f g at none in
@@ -79,7 +79,7 @@ module _ (c : Circuit) (is : IsCircuit c) (f g : Fault) (v w : List Bool) (same 
         same_bits_same_list (shown_bits c f x) (shown_bits c g y) (first ∙ sym (length-seen_bits (stuck_position g) y c.positions))
         (λ at below. alike_at at (omega (arith, below, first)) (is_reached c f g at) refl)
 
-  -- the other vector separates the pair too
+  -- The other vector separates the pair too.
   pub separates_also : Separates c v f g → length w ≡ c.sources → Separates c w f g
   separates_also s wide =
       let p = Agrees-exists c f w is in

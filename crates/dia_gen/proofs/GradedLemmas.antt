@@ -1,4 +1,4 @@
--- What a file states that is made from a list: its classes and the list's, and where its patterns are from.
+-- The classes that a file made from a list states and those of the list, and where its patterns come from.
 use Rattle.std.proofs.Common.{◌≡◌, ◌∙◌, ℕ, suc, ◌<◌, Bool, List, [], ◌∷◌, ◌++◌, map, take, drop, Some, refl, sym, ap, subst, append_assoc, arith}
 use Rattle.std.specs.Prelude.{All, Contains, slice_get}
 use Rattle.std.proofs.lemmas.List.{append-nil, map-id}
@@ -23,11 +23,11 @@ use Rattle.kept_vectors.proofs.PartedLemmas.{tables_parted, kept_alike, none_spl
 use Rattle.dia_gen.specs.Made.{IsMadeFrom}
 use Rattle.dia_gen.specs.Laws.{ListIsGraded}
 
--- lines of patterns, and others behind them
+-- Lines of patterns, and other lines after them.
 patterns_then : (kept : List (List Bool)) (later : List Record) → patterns_in (map Pattern kept ++ later) ≡ kept ++ patterns_in later
 patterns_then kept later = filter_map-append pattern_of (map Pattern kept) later ∙ ap (λ (vs : List (List Bool)). vs ++ patterns_in later) (read_all Pattern pattern_of (λ v. v) (λ v. refl) kept ∙ map-id kept)
 
--- records without a pattern
+-- Records without a pattern.
 no_patterns : (later : List Record) → ((at : ℕ) (v : List Bool) → slice_get later at ≡ Some (Pattern v) → ⊥) → patterns_in later ≡ []
 no_patterns [] none = refl
 no_patterns (Head s p n ∷ later) none = no_patterns later (λ at. none (suc at))
@@ -39,18 +39,18 @@ no_patterns (Member n class m ∷ later) none = no_patterns later (λ at. none (
 no_patterns (End ∷ later) none = no_patterns later (λ at. none (suc at))
 
 module _ (c : Circuit) (vectors : List (List Bool)) (budgets : Budgets) (summary : Summary) (file : Text) (made : IsMadeFrom c vectors budgets summary file) (is : IsCircuit c) where
-  -- the kept vectors are among the patterns with which lines behind them begin
+  -- The kept vectors are among the patterns that begin with them.
   kept_among : (more : List (List Bool)) → All (Contains (made.kept ++ more)) made.kept
   kept_among more k d below = Contains-append_left made.kept more _ (All-contains_itself made.kept k d below)
 
   body_patterns : patterns_in made.is_true.stated.body ≡ made.kept ++ patterns_in made.later
   body_patterns = ap patterns_in made.body ∙ patterns_then made.kept made.later
 
-  -- the class that is stated of a number is that in the table of all patterns
+  -- The stated class of a number is that in the table of all patterns.
   stated_in : (n : ℕ) → n < fault_count c → (t : ClassTable) × IsStatedIn c made.is_true.stated made.valid.lines n t
   stated_in n below = is_stated c made.is_true.stated made.valid.lines n (omega (arith, below, made.is_true.is_true.numbers))
 
-  -- so numbers are stated to be of one class exactly where they are in that table
+  -- Numbers are stated to be of one class exactly if they are in one class of that table.
   module _ (m n : ℕ) (hm : m < fault_count c) (hn : n < fault_count c) where
     abbrev t : ClassTable
     t = (stated_in m hm).0

@@ -1,4 +1,4 @@
--- Logs whose chains have ends can be written: their numbers are those of clauses, and their literals those of clauses.
+-- Logs whose chains have ends can be written: their numbers and literals are those of clauses.
 use Rattle.std.proofs.Common.{◌≡◌, ◌∙◌, ℕ, suc, ◌+◌, ◌<◌, ◌^◌, Bool, true, false, List, [], ◌∷◌, ◌++◌, length, length-append, refl, sym, ap, arith}
 use Rattle.std.specs.Prelude.{Option, Some, None, fold, All, Contains, slice_get, if◌then◌else◌}
 use Rattle.std.specs.Option.{option_and_then}
@@ -30,7 +30,7 @@ module _ (n : ℕ) (small : n < 2 ^ 31) where
     none_stays [] = refl
     none_stays (step ∷ steps) = none_stays steps
 
-    -- a step that can be made
+    -- A step that can be made.
     step_spelled : (clause : Clause) (step : Literal × ℕ) (end : Clause) → HasVariablesUpTo n clause → clause_after_step cs clause step ≡ Some end → HasStepSpelling step
     unfolding clause_after_step
     step_spelled clause step end within e = by (numbered_clause cs step.1) refl e
@@ -49,7 +49,7 @@ module _ (n : ℕ) (small : n < 2 ^ 31) where
         fold_push (λ end step. option_and_then (λ clause. clause_after_step cs clause step) end) (numbered_clause cs start.start) start.steps step
         ∙ (ap (option_and_then (λ clause. clause_after_step cs clause step)) is ∙ here)
 
-    -- the steps behind a chain that has an end
+    -- The steps of a chain that has an end.
     steps_spelled : (steps : List (Literal × ℕ)) (start : ChainView) (clause end : Clause) → chain_end cs start ≡ Some clause → fold (λ end step. option_and_then (λ clause. clause_after_step cs clause step) end) (Some clause) steps ≡ Some end → All HasStepSpelling steps
     unfolding chain_end
     steps_spelled [] start clause end is e = All-nil HasStepSpelling
@@ -76,7 +76,7 @@ module _ (n : ℕ) (small : n < 2 ^ 31) where
     pub chain_spelled : (chain : ChainView) (end : Clause) → chain_end cs chain ≡ Some end → HasLiteralSpelling chain.fresh_at → HasChainSpelling chain
     chain_spelled chain end e fresh = let parts = steps_from chain end e in record { start = parts.0; fresh_at = fresh; steps = parts.1 }
 
-  -- each chain of a log, whose literal is one of its end
+  -- Each chain of a log whose literal is one of its end.
   pub log_spelled : (P : ChainView → Type 0) (cs : List Clause) (log : List ChainView) (ends : List Clause) → All (HasVariablesUpTo n) cs → length cs + length log < 2 ^ 32 → log_ends cs log ≡ Some ends
       → ((chain : ChainView) (at : ℕ) (end : Clause) → slice_get log at ≡ Some chain → slice_get ends at ≡ Some end → HasVariablesUpTo n end → HasLiteralSpelling chain.fresh_at × (HasChainSpelling chain → P chain)) → All P log
   log_spelled P cs [] ends all few are step = All-nil P

@@ -17,7 +17,7 @@ use Rattle.dia_gen.specs.Marked.{member_for, members_below, AreMarkedBelow}
 use Rattle.result_file.proofs.LineLemmas.{member_lines_more}
 
 module _ (t : ClassTable) (given : List (Option Given)) where
-  -- no more member lines pass than there are numbers
+  -- At most as many member lines pass a test as there are numbers.
   pub few_marked : (p : Record → Bool) (n : ℕ) → count_by p (members_below t given n) ≤ n
   few_marked p n =
       let members = map (member_for t given) (range_with_len 0 n) in

@@ -1,4 +1,4 @@
--- Memory was wanting before any call.
+-- Memory was missing before any call.
 use Rattle.std.proofs.Common.{◌≡◌, ℕ, List, [], Result, Ok, Err, arith, refl}
 use Rattle.std.specs.Result.{IsErrAnd, OnErr}
 use Rattle.net_model.specs.Circuit.{Circuit}

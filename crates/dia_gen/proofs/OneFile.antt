@@ -1,4 +1,4 @@
--- Without a budget of cubes and one of conflicts there is one made file: each line follows from those before it.
+-- Without budgets of cubes and conflicts there is one made file: each line follows from those before it.
 use Rattle.std.proofs.Common.{◌≡◌, ◌∙◌, ℕ, ◌<◌, ◌≤◌, List, [], ◌∷◌, ◌++◌, map, length, get_or, cond, Option, Some, refl, sym, ap, subst, append_assoc, arith}
 use Rattle.std.specs.Prelude.{All, ⊤, Bool}
 use Rattle.std.specs.List.{slice_get, fold, enumerate_from}
@@ -40,13 +40,13 @@ use Rattle.dia_gen.specs.Made.{HasNoSearch, HasNoRefutation, IsMadeFrom}
 use Rattle.dia_gen.specs.Laws.{stream_budgets, OneFileOfStream, OneFileOfList}
 use Rattle.dia_gen.proofs.DraftResult.{count_end}
 
--- The record is no pattern, and evidence without a search and without a refutation.
+-- The record isn't a pattern, and evidence has no search and isn't a refutation.
 abbrev IsWithoutChoice : Record → Type 0
 IsWithoutChoice (Pattern v) = ⊥
 IsWithoutChoice (Same e) = HasNoSearch e.proof × HasNoRefutation e.proof
 IsWithoutChoice _ = ⊤
 
--- a table has a class
+-- The table has at least one class.
 some_after : (t : ClassTable) (rows : List (List (List Bool))) → 0 < class_count t → 0 < class_count (fold refined_table t rows)
 some_after t [] some = some
 some_after t (row ∷ rows) some = some_after (refined_table t row) rows (omega (arith, count-refined t row))
@@ -57,7 +57,7 @@ some_class {c} {patterns} {t} table = subst (λ (u : ClassTable). 0 < class_coun
 -- ---- one proof
 
 module _ (c : Circuit) (f g : Fault) (budgets : Budgets) (cubes : budgets.cubes ≡ 0) (conflicts : budgets.conflicts ≡ 0) where
-  -- an open leaf alone covers nothing
+  -- An open leaf alone covers nothing.
   open_covers_none : (tree : List Token) → IsCovering c f g budgets.cubes tree → tree ≡ Rest ∷ [] → ⊥
   open_covers_none tree covering is = covering.covered (rw is (0, omega arith, refl))
 
@@ -134,7 +134,7 @@ module _ (c : Circuit) (t : ClassTable) (before : List Record) (some : 0 < class
   line_once End (Member n k m) place place' right right' free free' = absurd (omega (arith, right'.next, right'.inside, place.1))
   line_once End End place place' right right' free free' = refl
 
-  -- nothing stands behind the end
+  -- No line comes after the end.
   line_after_end : (r : Record) → IsInPlace t before r → IsRightContent c t before r → class_lines before ≡ class_count t → 0 < end_lines before → ⊥
   line_after_end (Head s p n) place right whole ended = omega (arith, ap length place, two)
   line_after_end (Budget b) place right whole ended = omega (arith, place, two)
@@ -147,7 +147,7 @@ module _ (c : Circuit) (t : ClassTable) (before : List Record) (some : 0 < class
 -- ---- all lines
 
 module _ (c : Circuit) (circuit : IsCircuit c) (sources positions numbers : ℕ) (b : Budgets) (cubes : b.cubes ≡ 0) (conflicts : b.conflicts ≡ 0) where
-  -- these lines behind the first two
+  -- These lines after the first two.
   abbrev behind : List Record → List Record
   behind rest = Head sources positions numbers ∷ Budget b ∷ rest
 
@@ -194,7 +194,7 @@ module _ (c : Circuit) (circuit : IsCircuit c) (sources positions numbers : ℕ)
 -- ---- the file
 
 module _ {c : Circuit} {vectors : List (List Bool)} {blocks : ℕ} {summary : Summary} {file : Text} (made : IsMadeFrom c vectors (stream_budgets blocks) summary file) where
-  -- the lines behind the patterns that are kept first, up to the end
+  -- The lines after the kept patterns, up to the end.
   abbrev rest : List Record
   rest = made.later ++ class_records made.is_true.stated.births ++ member_records made.is_true.stated.members
 

@@ -67,7 +67,7 @@ module _ (c : Circuit) (is : IsCircuit c) (f g : Fault) (budgets : Budgets) (tok
     spelled_tree : HasTreeSpelling tokens
     spelled_tree = tree_spelling c f g sources tokens left.spending.tree
 
-    -- without a budget of conflicts
+    -- Without a budget of conflicts.
     pub unlearned_by : budgets.conflicts ≡ 0 → IsProofBy c f g budgets (proof.Spent tokens [])
     unlearned_by none = record {
       roots = λ apart. apart;
@@ -122,7 +122,7 @@ module _ (c : Circuit) (is : IsCircuit c) (f g : Fault) (budgets : Budgets) (tok
       }
 
 module _ (c : Circuit) (f g : Fault) (budgets : Budgets) where
-  -- a cube that a search finds
+  -- A cube that a search finds.
   pub cube_apart : (cube : List (Option Bool)) → budgets.cubes ≢ 0 → SeparatesAll c f g cube → AreApartBy c f g budgets cube
   cube_apart cube some all = record {
     width = all.width;
@@ -131,7 +131,7 @@ module _ (c : Circuit) (f g : Fault) (budgets : Budgets) where
         record { budget = inl some; width = width; separates = all.each v width of.fixed };
   }
 
-  -- the bits at the relevant sources of a vector that separates the two
+  -- The bits at the relevant sources of a vector that separates the two.
   pub vector_apart : IsCircuit c → (v : List Bool) (cube : List (Option Bool)) → budgets.conflicts ≢ 0 → Separates c v f g → length cube ≡ length v → HasRelevant c f g v cube → AreApartBy c f g budgets cube
   vector_apart is v cube some apart wide fixed = record {
     width = wide ∙ apart.width;
@@ -145,7 +145,7 @@ module _ (c : Circuit) (f g : Fault) (budgets : Budgets) where
 pub proof_for : {c : Circuit} {budgets : Budgets} {m n : ℕ} {p : Proof} → root c (fault_numbered c m) ≢ root c (fault_numbered c n) → IsProofBy c (fault_numbered c m) (fault_numbered c n) budgets p → IsProofFor c budgets m n p
 proof_for apart is = record { roots = is.roots apart; spelled = is.spelled; right = is.right; no_search = is.no_search; no_refutation = is.no_refutation }
 
--- what settles a pair whose roots differ
+-- What settles a pair whose roots differ.
 pub settled_for : (c : Circuit) (budgets : Budgets) (m n : ℕ) → root c (fault_numbered c m) ≢ root c (fault_numbered c n) → (result : Result Settled AllocError) → IfOk result (IsSettledBy c (fault_numbered c m) (fault_numbered c n) budgets) → IfOk result (IsSettledFor c budgets m n)
 settled_for c budgets m n apart (Ok (Apart v)) is = is
 settled_for c budgets m n apart (Ok (By p)) is = proof_for apart is

@@ -13,7 +13,7 @@ use Rattle.result_file.specs.Meaning.{StatedResult, stated_records}
 use Rattle.result_file.proofs.StatedLines.{pattern_right}
 use Rattle.dia_gen.specs.Laws.{PatternsSplitInTurn}
 
--- Each of these vectors behind others has a bit for each source, and splits a class of those before it.
+-- Each of these vectors, which come after others, has a bit for each source and splits a class of those before it.
 record AreInTurn (c : Circuit) (before vectors : List (List Bool)) : Type 0 where
   widths : All (λ v. length v ≡ c.sources) vectors
   splits : (at : ℕ) → at < length vectors → SplitsClass c (before ++ take at vectors) (get_or vectors at [])
@@ -25,7 +25,7 @@ splits_next c before v vectors first later (suc at) below =
     subst (λ (vs : List (List Bool)). SplitsClass c vs (get_or vectors at [])) (append_assoc before (v ∷ []) (take at vectors)) (later.splits at (omega arith))
 
 module _ (c : Circuit) (s : StatedResult) (right : AreRightLines c (stated_records c s)) where
-  -- behind a record whose patterns are these
+  -- After a record with these patterns.
   pass : (before : List Record) (r : Record) (vectors : List (List Bool)) (more : List (List Bool)) → patterns_in (r ∷ []) ≡ more → AreInTurn c (patterns_in (before ++ r ∷ [])) vectors → AreInTurn c (patterns_in before ++ more) vectors
   pass before r vectors more is turn =
       subst (λ (vs : List (List Bool)). AreInTurn c vs vectors) (filter_map-append pattern_of before (r ∷ []) ∙ ap (λ (vs : List (List Bool)). patterns_in before ++ vs) is) turn

@@ -47,7 +47,7 @@ written_then h w = record {
 
 -- ---- texts that wait
 
--- nothing was made
+-- Nothing was made.
 pub none_gathered : {wait : Text} (a : State) → HasGathered [] wait wait a a
 none_gathered {wait} a = record { done = []; is = append-nil wait; written = none_written a }
 
@@ -61,7 +61,7 @@ gathered_then {text} {more} {before} {mid} {after} h k = record {
 pub whole_gathered : {text before after : Text} {a b : State} → HasGathered text before after a b → Gathers text (Ok tt) before after a b
 whole_gathered h = record { call = call_same h.written.facts; ok = h; err = tt; sure = λ s told e. absurd (cc) }
 
--- a line that came behind what waits waits too
+-- A line that was appended to the waiting text is waiting too.
 pub line_before : {line before after : Text} {a b : State} (r : Result (Unit {0}) ShelfFault) → Gathers [] r (before ++ line) after a b → Gathers line r before after a b
 line_before {line} {before} (Ok x) w = record {
   call = w.call;
@@ -71,14 +71,15 @@ line_before {line} {before} (Ok x) w = record {
 }
 line_before {line} {before} (Err fault) w = record { call = w.call; ok = tt; err = λ told. rw (append-nil (before ++ line)) at (w.err told); sure = w.sure }
 
--- a beginning of a longer text
+-- A beginning of a longer text.
 pub part_of : (text line rest whole : Text) → whole ≡ text ++ line ++ rest → {u v w : World} → Writes text u v → OfSome Writes line v w → OfSome Writes whole u w
 part_of text line rest whole is {u} {v} {w} first some =
     let at : take (length text + some.0) whole ≡ text ++ take some.0 line =
     ap (take (length text + some.0)) (is ∙ append_assoc text line rest) ∙ (take-append-add text (line ++ rest) some.0 ∙ ap (λ (t : Text). text ++ t) (take-append-le some.0 line rest some.1)) in
     (length text + some.0, rw (is, length-append (text ++ line) rest, length-append text line) (omega (arith, some.1)), rw at (writes_more first some.2))
 
--- what waited before a text, the text, a line and the rest are what was written, what then waited with the line, and the rest
+-- The waiting text, the text, a line and the rest are what was written, what was then waiting with the line, and the
+-- rest.
 seam : (before text line rest done mid : Text) → before ++ text ≡ done ++ mid → before ++ (text ++ line ++ rest) ≡ done ++ (mid ++ line) ++ rest
 seam before text line rest done mid is =
     sym (append_assoc before (text ++ line) rest) ∙ ap (λ (t : Text). t ++ rest) (sym (append_assoc before text line) ∙ ap (λ (t : Text). t ++ line) is ∙ append_assoc done mid line)
@@ -91,7 +92,7 @@ text_broken text line rest whole {before} {mid} {after} {last} {fault} {a} {b} {
   sure = λ s told e. sym (h.written.written told).written ∙ w.sure (h.written.facts.sure ∙ s) (h.written.facts.tells ∙ told) e;
 }
 
--- what comes last decides
+-- The last call decides.
 pub gathered_last : {text line before mid after : Text} {a b c : State} (r : Result (Unit {0}) ShelfFault) → HasGathered text before mid a b → Gathers line r mid after b c → Gathers (text ++ line) r before after a c
 gathered_last (Ok x) h w = whole_gathered (gathered_then h w.ok)
 gathered_last {text} {line} (Err fault) h w = text_broken text line [] (text ++ line) (sym (append-nil (text ++ line))) h w
@@ -114,12 +115,12 @@ lines_gathered all k past h = whole_gathered (rw (take_all k all past) at h)
 
 -- ---- results
 
--- some beginning of a text, which is what was written where the shelf tells
+-- Some beginning of a text is what was written if the shelf tells its files.
 told_some : (tells : Bool) (text : Text) {u v : World} → (IsTrue tells → OfSome Writes text u v) → (n : ℕ) × (IsTrue tells → Writes (take n text) u v)
 told_some true text some = let w = some refl in (w.0, λ told. w.2)
 told_some false text some = (0, λ told. absurd (cc))
 
--- right lines were broken off by a fault of the next ones
+-- Right lines were broken off by a fault of the next ones.
 pub broken : {c : Circuit} {fault : ShelfFault} (lines more rest : List Record) {mid after : Text} {start between now : State} → AreRightLines c (lines ++ more ++ rest) → HasGathered (text_of lines) [] mid start between → Gathers (text_of more) (Err fault) mid after between now → BrokeOff c fault start now
 broken {c} {fault} lines more rest {mid} {after} {start} {between} {now} right h w =
     let all = text_of (lines ++ more ++ rest) in
@@ -134,7 +135,7 @@ broken {c} {fault} lines more rest {mid} {after} {start} {between} {now} right h
       sure = λ s told e. cut.sure s told (ap Err e);
     }
 
--- nothing is written where there is no memory
+-- Nothing is written if memory is missing.
 no_text : (wait : Text) (a : State) → Gathers [] (Err NoMemory) wait wait a a
 no_text wait a = record {
   call = record { tells = refl; sure = refl; reads = refl; later = omega arith; ok = tt; failed = λ e. absurd (cc); memory = λ s e. refl };
@@ -143,13 +144,13 @@ no_text wait a = record {
   sure = λ s told e. absurd (cc);
 }
 
--- the lines that wait couldn't be written
+-- The waiting lines couldn't be written.
 pub stopped : {c : Circuit} {fault : ShelfFault} (lines : List Record) {wait after : Text} {start between now : State} → AreRightLines c lines → HasGathered (text_of lines) [] wait start between → Gathers [] (Err fault) wait after between now → BrokeOff c fault start now
 stopped lines right h w = broken lines [] [] (rw (append-nil lines, append-nil lines) right) h w
 
 pub broken_here : {c : Circuit} (lines : List Record) {wait : Text} {start now : State} → AreRightLines c lines → HasGathered (text_of lines) [] wait start now → BrokeOff c NoMemory start now
 broken_here {c} lines {wait} {start} {now} right h = stopped lines right h (no_text wait now)
 
--- no line is written yet
+-- No line is written yet.
 pub nothing_broken : {c : Circuit} (start : State) → BrokeOff c NoMemory start start
 nothing_broken {c} start = broken_here [] nothing_right (none_gathered {wait = []} start)

@@ -18,7 +18,7 @@ nothing_right {c} = record { spelled = λ at below. absurd (omega arith); right 
 pub nothing_cut : {c : Circuit} → IsCutFile c []
 nothing_cut {c} = record { records = []; right = nothing_right; count = 0; cut = refl }
 
--- with as many cubes as there are vectors a made file leaves no member open
+-- With as many cubes as there are vectors, a made file leaves no member open.
 pub made_closed : {c : Circuit} {vectors : List (List Bool)} {budgets : Budgets} {summary : Summary} {file : List ℕ} → AreSound c → IsMadeFrom c vectors budgets summary file → 2 ^ c.sources ≤ budgets.cubes → summary.spent ≡ 0
 made_closed {c} {vectors} {budgets} sound made enough =
     let s = made.is_true.stated in
@@ -26,7 +26,7 @@ made_closed {c} {vectors} {budgets} sound made enough =
     ap (λ (x : Summary). x.spent) made.summary_is
     ∙ none_open c s.budgets sound c.sources (length c.positions) (fault_count c) rest made.valid.lines (rw made.is_true.budgets_are enough)
 
--- writing nothing changes nothing
+-- Writing nothing changes nothing.
 none_appended : (written : Option (List ℕ)) (files : Files) → files ≡ appended written files []
 none_appended None files = refl
 none_appended (Some name) files = refl

@@ -21,7 +21,9 @@ use Rattle.member_marks.specs.Given.{AreGiven}
 use Rattle.dia_gen.specs.Made.{lines_with, SeparatesNext, HasNoSearch, HasNoRefutation}
 use Rattle.dia_gen.specs.Writing.{HasGathered}
 
--- The lines are right, and come about in the generator's way.
+-- The lines are right and made as the generator makes them: after the kept patterns there are only patterns and
+-- evidence, each later pattern separates the next number from its representative, without a budget of cubes no evidence
+-- has a search, without a budget of conflicts none is a refutation, and without either there is no later pattern.
 pub record AreDraftLines (c : Circuit) (budgets : Budgets) (kept : List (List Bool)) (later : List Record) : Type 0 where
   pub right : AreRightLines c (lines_with c budgets kept later)
   pub body : All (λ r. IsTrue (is_body_record r)) later
@@ -30,8 +32,10 @@ pub record AreDraftLines (c : Circuit) (budgets : Budgets) (kept : List (List Bo
   pub no_refutation : (at : ℕ) (e : Evidence) → budgets.conflicts ≡ 0 → slice_get later at ≡ Some (Same e) → HasNoRefutation e.proof
   pub no_choice : (at : ℕ) (v : List Bool) → budgets.cubes ≡ 0 → budgets.conflicts ≡ 0 → slice_get later at ≡ Some (Pattern v) → ⊥
 
--- What the lines are made from: these vectors of the setting are kept, and then the patterns of the later lines. The marks are those of
--- their evidence, the space is one for pairs of the circuit, and a block is looked at only if there is a budget to find a pattern.
+-- The draft has what these lines are made from. The vectors `kept` are those of the setting that are kept, and the
+-- keeper has them and then the patterns of the later lines. The marks are those that the evidence of the later lines
+-- gives, the space is one for pairs of the circuit, and a block is looked at only if there is a budget to find a
+-- pattern. The circuit has fewer than 2^27 faults.
 pub record IsDrafted (s : GenerationSetting) (d : Draft) (kept : List (List Bool)) (later : List Record) : Type 0 where
   pub first : IsKeptOf s.circuit s.vectors kept
   pub lines : AreDraftLines s.circuit s.budgets kept later
@@ -43,7 +47,8 @@ pub record IsDrafted (s : GenerationSetting) (d : Draft) (kept : List (List Bool
   pub space : IsSpaceFor s.circuit s.budgets d.space
   pub looked : (v : List Bool) → Contains d.keeper.looked v → (s.budgets.cubes ≢ 0) ⊎ (s.budgets.conflicts ≢ 0)
 
--- The first vectors are kept, no number is marked, and no line is made.
+-- The first vectors are kept, no number is marked, no block is looked at, and no line is waiting. The space is one for
+-- pairs of the circuit, which has fewer than 2^27 faults, and the budgets are within the limits.
 pub record IsBegun (s : GenerationSetting) (d : Draft) : Type 0 where
   pub is_circuit : IsCircuit s.circuit
   pub circuit : d.keeper.circuit ≡ s.circuit
@@ -55,7 +60,7 @@ pub record IsBegun (s : GenerationSetting) (d : Draft) : Type 0 where
   pub looked : d.keeper.looked ≡ []
   pub gathered : d.gathered ≡ []
 
--- The lines so far are written, but for those that wait.
+-- The lines made so far are written, except those that are waiting.
 pub record IsDraft (s : GenerationSetting) (d : Draft) (start now : State) : Type 0 where
   pub kept : List (List Bool)
   pub later : List Record

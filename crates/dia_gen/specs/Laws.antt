@@ -14,34 +14,35 @@ use Rattle.text_fields.specs.Fields.{Text}
 use Rattle.kept_vectors.specs.Laws.{AnswerAlike}
 use Rattle.dia_gen.specs.Made.{IsMade, IsMadeFrom}
 
--- no cube is tried and no clause is learned
+-- Budgets with the given number of blocks, and without cubes and conflicts.
 abbrev pub stream_budgets : ℕ → Budgets
 stream_budgets blocks = record { blocks = blocks; cubes = 0; conflicts = 0 }
 
--- two files that are made for one circuit with such budgets are the same text, and amount to the same
+-- Two files that are made for one circuit and as many blocks, without budgets of cubes and conflicts, are the same text
+-- and have the same summary.
 abbrev pub OneFileOfStream : Type 0
 OneFileOfStream = (c : Circuit) (blocks : ℕ) (summary other : Summary) (file text : Text) → IsCircuit c
     → IsMade c (stream_budgets blocks) summary file → IsMade c (stream_budgets blocks) other text → (file ≡ text) × (summary ≡ other)
 
--- so it is with two files that are made from one list
+-- Two files that are made from one list and for one circuit, without budgets of cubes and conflicts, are the same text
+-- and have the same summary.
 abbrev pub OneFileOfList : Type 0
 OneFileOfList = (c : Circuit) (vectors : List (List Bool)) (blocks : ℕ) (summary other : Summary) (file text : Text) → IsCircuit c
     → IsMadeFrom c vectors (stream_budgets blocks) summary file → IsMadeFrom c vectors (stream_budgets blocks) other text → (file ≡ text) × (summary ≡ other)
 
--- What a file states that is made from a list.
+-- What a file made from a list states: numbers of one stated class answer alike to each vector of the list, a pattern
+-- that was found is no vector of the list, and without budgets of cubes and conflicts the stated classes are exactly
+-- those of the list.
 pub record IsGraded (c : Circuit) (vectors : List (List Bool)) (budgets : Budgets) (s : StatedResult) (later : List Record) : Type 0 where
-  -- Numbers of one class answer alike to each vector of the list.
   pub tells : (m n : ℕ) → m < fault_count c → n < fault_count c → stated_class s m ≡ stated_class s n → AnswerAlike c vectors m n
-  -- A pattern that was found is no vector of the list.
   pub found : (at : ℕ) (v : List Bool) → slice_get later at ≡ Some (Pattern v) → Contains vectors v → ⊥
-  -- Without budgets the classes are exactly those of the list.
   pub exact : (m n : ℕ) → budgets.cubes ≡ 0 → budgets.conflicts ≡ 0 → m < fault_count c → n < fault_count c → AnswerAlike c vectors m n → stated_class s m ≡ stated_class s n
 
--- so it is with every such file
+-- Each file that is made from a list states classes as `IsGraded` says.
 abbrev pub ListIsGraded : Type 0
 ListIsGraded = (c : Circuit) (vectors : List (List Bool)) (budgets : Budgets) (summary : Summary) (file : Text) (made : IsMadeFrom c vectors budgets summary file) → IsCircuit c
     → IsGraded c vectors budgets made.is_true.stated made.later
 
--- the patterns of right lines have a bit for each source, and each splits a class of those before it
+-- The patterns of right lines have a bit for each source, and each splits a class of the patterns before it.
 abbrev pub PatternsSplitInTurn : Type 0
 PatternsSplitInTurn = (c : Circuit) (s : StatedResult) → AreRightLines c (stated_records c s) → SplitInTurn c (patterns_in s.body)

@@ -11,15 +11,15 @@ use Rattle.member_marks.specs.Given.{given_mark}
 use Rattle.member_marks.specs.declared.counts.MarkCounts.{MarkCounts}
 use Rattle.member_marks.specs.declared.marks.Given.{Given}
 
--- the class and the mark of a number
+-- The class and the mark of a number.
 abbrev pub member_for : ClassTable → List (Option Given) → ℕ → ℕ × Mark
 member_for t given n = (class_at t n, unwrap_or (given_mark t given n) mark.Rep)
 
--- the member lines of the numbers below a bound
+-- The member lines of the numbers below a bound.
 abbrev pub members_below : ClassTable → List (Option Given) → ℕ → List Record
 members_below t given n = member_records (map (member_for t given) (range_with_len 0 n))
 
--- The counts are those of the numbers below a bound.
+-- The counts are those of the members below a bound that are marked equal and that are left open.
 pub record AreMarkedBelow (t : ClassTable) (given : List (Option Given)) (n : ℕ) (counts : MarkCounts) : Type 0 where
   pub equal : counts.equal ≡ count_by is_equal (members_below t given n)
   pub spent : counts.spent ≡ count_by is_open (members_below t given n)
@@ -28,6 +28,6 @@ pub record AreMarkedBelow (t : ClassTable) (given : List (Option Given)) (n : �
 abbrev pub AreMarkedUpTo : ClassTable → List (Option Given) → ℕ → Type 0
 AreMarkedUpTo t given bound = (n : ℕ) → n < bound → IsSome (given_mark t given n)
 
--- A number that is a representative or marked stays so, where after more cuts it is in an old class.
+-- A number that is a representative or marked stays so if, after more cuts, it is in an old class.
 abbrev pub DoMarksStay : ClassTable → ClassTable → List (Option Given) → List (Option Given) → Type 0
 DoMarksStay t u given later = (n : ℕ) → n < length t.class_of → class_at u n < class_count t → IsSome (given_mark t given n) → IsSome (given_mark u later n)

@@ -1,4 +1,4 @@
-//! What is found of numbers ahead of their turn.
+//! What a search found for numbers before their turn.
 
 ghost use Rattle.std.specs.Prelude.{◌≡◌, ◌<◌, All, IfOk, IfSome, length};
 ghost use Rattle.net_model.specs.Circuit.{Circuit};
@@ -10,15 +10,15 @@ use crate::setting::GenerationSetting;
 use distinguish_search::Searched;
 use std::alloc::{AllocError, Global};
 
-// What a search found of a number and the representative that it had then. It holds whatever the classes are.
+// What a search found for a number and `lead`, the representative that it had then. It holds whatever the classes are.
 #[derive(Drop)]
 pub(crate) struct Known {
     pub(crate) lead: u32,
     pub(crate) found: Searched,
 }
 
-// By number what is known of it, and whether it is the lowest with its root: of the numbers with one root only that one is
-// searched ahead of its turn.
+// For each number: what is known of it, and whether it is the lowest number with its root. Only that one of the numbers
+// with one root is searched before its turn.
 #[derive(Drop)]
 pub(crate) struct Ahead {
     pub(crate) known: Vec<Option<Known>>,
@@ -26,7 +26,7 @@ pub(crate) struct Ahead {
 }
 
 impl Ahead {
-    // Nothing is known of any number.
+    // Returns an `Ahead` in which nothing is known of any number.
     pub(crate) fn new(alloc: Global, setting: &GenerationSetting) -> Result<Ahead, AllocError>
         ensures { IfOk result (IsAheadFor setting.now.circuit setting.now.budgets) }
     {
@@ -39,14 +39,15 @@ impl Ahead {
         Ok(Ahead { known, lowest })
     }
 
-    // Whether a number is the lowest with its root.
+    // Returns whether `number` is the lowest number with its root.
     pub(crate) fn is_lowest(&self, number: u32) -> bool
         requires { number < length self.now.lowest.items }
     {
         self.lowest[number as usize]
     }
 
-    // Takes what is known of a number with this representative. What is known with another one goes.
+    // Takes out what is known of `number`, and returns it if it was found with the representative `lead`; otherwise
+    // drops it and returns none.
     pub(crate) fn take(&mut self, lead: u32, number: u32) -> Option<Searched>
         requires { number < length self.old.known.items }
         ensures ahead { (c : Circuit) (budgets : Budgets) → IsAheadFor c budgets self.old → IsAheadFor c budgets self.new }
@@ -58,7 +59,7 @@ impl Ahead {
         }
     }
 
-    // Knows something of a number until its turn.
+    // Keeps `known` for `number` until the turn of `number`.
     pub(crate) fn put(&mut self, number: u32, known: Known)
         requires { number < length self.old.known.items }
         ensures { (c : Circuit) (budgets : Budgets) → IsAheadFor c budgets self.old → IsKnownOf c budgets number known → IsAheadFor c budgets self.new }
@@ -67,7 +68,7 @@ impl Ahead {
     }
 }
 
-// By number whether it is the lowest with its root.
+// Returns for each number whether it is the lowest number with its root.
 fn lowest_of_roots(alloc: Global, roots: &[u32]) -> Result<Vec<bool>, AllocError>
     requires { All (λ root. root < length roots.now) roots.now }
     ensures { IfOk result (λ lowest. length lowest.items ≡ length roots.now) }

@@ -1,4 +1,4 @@
-//! The cubes of a block: that of a number in its turn, and those that are found for the next numbers that wait.
+//! The cubes of a block: that of the number whose turn it is, and those found for the next numbers that are still open.
 
 ghost use Rattle.std.specs.Prelude.{◌≡◌, ◌<◌, All, OnOk, length};
 ghost use Rattle.net_model.specs.Circuit.{IsCircuit};
@@ -15,10 +15,11 @@ use kept_vectors::Cube;
 use member_marks::Marks;
 use std::alloc::{AllocError, Global};
 
-// How many cubes share the lanes of a block.
+// The most cubes that share the lanes of a block.
 const CUBES: usize = 8;
 
-// Finds cubes for the next numbers that wait, from `first` on, and adds them to those of a block. What is found stays known.
+// Searches cubes for the next open numbers that are the lowest with their roots, starting at `first`, at most as many
+// as `setting.ahead()`. Adds the cubes found to `cubes`. What was found stays known.
 pub(crate) fn add_ahead(
     alloc: Global,
     setting: &GenerationSetting,
@@ -52,7 +53,7 @@ pub(crate) fn add_ahead(
     Ok(())
 }
 
-// Adds the cube of a pair of numbers to those of a block, if one is found. What is found stays known.
+// Searches a cube for the pair `lead` and `number`, and adds it to `cubes` if one is found. What was found stays known.
 fn add_pair(
     alloc: Global,
     setting: &GenerationSetting,
@@ -78,7 +79,7 @@ fn add_pair(
     Ok(())
 }
 
-// Joins a cube to the first of some that it doesn't contradict, else puts it behind them if there is room.
+// Joins `cube` to the first of `cubes` that it doesn't contradict. If it contradicts all, appends it if there is room.
 fn add_cube(alloc: Global, cubes: &mut Vec<Cube>, cube: &[Option<bool>]) -> Result<(), AllocError>
     requires some { 0 < length cubes.old.items }
     requires widths { All (λ other. length other ≡ length cube.now) cubes.old.items }

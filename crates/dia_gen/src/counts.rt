@@ -1,4 +1,4 @@
-//! How many members are marked equal, and how many are left open.
+//! The counts of the members that are marked equal and of those that are left open.
 
 ghost use Rattle.std.specs.Prelude.{◌≡◌, length};
 ghost use Rattle.member_marks.specs.Given.{AreAllMarked};

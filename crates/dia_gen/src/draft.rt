@@ -1,4 +1,4 @@
-//! A result under way.
+//! The result under way: takes one number after another until all are marked.
 
 ghost use Rattle.std.specs.Prelude.{◌≡◌, ◌<◌, ◌+◌, ℕ, List, Bool, Contains, IfOk, IfErr, OnOk, IsSome, IsTrue, MatchOption};
 ghost use Rattle.kept_vectors.specs.Cube.{IsOfCube};
@@ -24,7 +24,7 @@ use member_marks::{Marks, mark_of};
 use result_file::{Evidence, Proof, Record};
 use std::alloc::{AllocError, Global};
 
-// What is kept, the marks that are given, the space in which each pair is settled, and the lines that are not yet written.
+// What is kept, the marks given so far, the space in which pairs are settled, and the lines that aren't written yet.
 pub(crate) struct Draft<'a> {
     pub(crate) keeper: Keeper<'a>,
     pub(crate) marks: Marks,
@@ -32,7 +32,7 @@ pub(crate) struct Draft<'a> {
     pub(crate) gathered: Gathered,
 }
 
-// Written out, it is one step in the proof of each function that lets a draft go.
+// Written by hand so that a drop of a draft is one step in the proof of each function that drops one.
 impl Drop for Draft<'_> {
     fn drop(self) {
         let Draft {
@@ -45,7 +45,7 @@ impl Drop for Draft<'_> {
 }
 
 impl<'a> Draft<'a> {
-    // The first vectors that are kept, and no mark.
+    // Returns a draft with the first vectors that are kept and without marks.
     pub(crate) fn begin(
         alloc: Global,
         setting: &GenerationSetting<'a>,
@@ -98,9 +98,10 @@ impl<'a> Draft<'a> {
         Ok(())
     }
 
-    // Writes evidence for one number after another, up to the first that a new pattern tells from its representative.
-    // Each number below `first` is a representative or marked. Answers up to where this is so with the new pattern, which may
-    // take marks away; without one all numbers are marked.
+    // Writes evidence for one open number after another, up to the first one that a new pattern separates from its
+    // representative. Each number below `first` is a representative or marked. If there was a new pattern, which may
+    // take marks away, returns a number below which each number is still a representative or marked. Otherwise returns
+    // none, and each number is a representative or marked.
     fn mark_round<S: Shelf>(
         &mut self,
         alloc: Global,
@@ -127,9 +128,9 @@ impl<'a> Draft<'a> {
         Ok(None)
     }
 
-    // Writes evidence for the lowest number that isn't marked, or a pattern that tells it from its representative: one of the
-    // block that is looked at if one does, else one of a new block. Returns whether it was a pattern. Before a search nothing
-    // waits.
+    // Writes evidence for `member`, the lowest open number, or a pattern that separates it from its representative: one
+    // of the block that is looked at if it has one, else one of a new block. Returns whether it was a pattern. Before a
+    // search all waiting lines are written.
     fn settle<S: Shelf>(
         &mut self,
         alloc: Global,
@@ -166,7 +167,7 @@ impl<'a> Draft<'a> {
         }
     }
 
-    // Writes the lines that wait, unless the two numbers have one root, so that no search follows.
+    // Writes the waiting lines unless the two numbers have the same root. If they have, no search follows.
     fn write_before_search<S: Shelf>(
         &mut self,
         setting: &GenerationSetting,
@@ -189,8 +190,8 @@ impl<'a> Draft<'a> {
         self.gathered.write_out(shelf)
     }
 
-    // Adds a pattern of the block that is looked at that tells a number from its representative, if there is one. Returns
-    // whether there is.
+    // Adds a pattern of the block that is looked at, if one separates `member` from its representative. Returns whether
+    // there is one.
     fn keep_apart<S: Shelf>(
         &mut self,
         setting: &GenerationSetting,
@@ -217,7 +218,7 @@ impl<'a> Draft<'a> {
         }
     }
 
-    // Adds a pattern that tells a number from its representative, which all vectors of a cube do.
+    // Adds a pattern that separates `member` from its representative. All vectors of `cube` do.
     fn add_pattern<S: Shelf>(
         &mut self,
         alloc: Global,
@@ -244,7 +245,7 @@ impl<'a> Draft<'a> {
         }
     }
 
-    // Looks at a block of vectors of a cube for a number, and of the cubes of the next numbers that wait.
+    // Looks at a block of vectors, of `cube` for `member` and of the cubes found for the next open numbers.
     fn look_ahead(
         &mut self,
         alloc: Global,
@@ -276,7 +277,7 @@ impl<'a> Draft<'a> {
         self.keeper.look(cubes.as_slice())
     }
 
-    // Adds evidence for a number with its representative.
+    // Adds evidence for `member` and its representative `lead`.
     fn add_evidence<S: Shelf>(
         &mut self,
         setting: &GenerationSetting,

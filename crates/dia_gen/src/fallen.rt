@@ -1,12 +1,12 @@
-//! From which number on marks may have fallen.
+//! The lowest number that may have lost its mark by new classes.
 
 ghost use Rattle.std.specs.Prelude.{◌≡◌, ◌≤◌, ◌<◌, ℕ, length, slice_index};
 ghost use Rattle.net_model.specs.ClassTable.{class_at, representative};
 
 use class_refine::Classes;
 
-// The lowest number below a limit that is another member than the representative of a class from `first` on; else the
-// limit.
+// Returns the lowest number below `limit` that is a member of a class numbered `first` or higher and isn't its
+// representative. Returns `limit` if there is none.
 pub(crate) fn lowest_fallen(classes: &Classes, first: u32, limit: u32) -> u32
     ensures within { result ≤ limit }
     ensures leads { (n : ℕ) → n < result → n < length classes.now.class_of → first ≤ class_at classes.now n → representative classes.now (class_at classes.now n) ≡ n }
@@ -18,7 +18,7 @@ pub(crate) fn lowest_fallen(classes: &Classes, first: u32, limit: u32) -> u32
     lowest
 }
 
-// A limit, or the second member where it is lower.
+// Returns the second of `members` if it is lower than `limit`, else `limit`.
 fn up_to_second(members: &[u32], limit: u32) -> u32
     ensures within { result ≤ limit }
     ensures second { 1 < length members.now → result ≤ slice_index members.now 1 }

@@ -13,16 +13,16 @@ use result_file::{Mark, Record, push_class_line, push_member_line, push_pattern,
 use std::alloc::Global;
 use std::marker::Model;
 
-// From so many bytes on what is gathered is written.
+// If at least this many bytes are waiting, they are written.
 const PIECE: usize = 65_536;
 
-// The text that waits, and room for the line that is made.
+// The waiting text, and room for the line that is being made.
 pub(crate) struct Gathered {
     text: Vec<u8>,
     line: String,
 }
 
-// Written out, it is one step in the proof of each function that lets it go.
+// As for `Draft`.
 impl Drop for Gathered {
     fn drop(self) {
         let Gathered { text: _, line: _ } = self;
@@ -47,7 +47,7 @@ impl Gathered {
         }
     }
 
-    // Writes what is gathered.
+    // Writes the waiting text.
     pub(crate) fn write_out<S: Shelf>(&mut self, shelf: &mut S) -> Result<(), ShelfFault>
         ensures gathers { Gathers [] result self.old self.new (S.state shelf.old) (S.state shelf.new) }
         ensures empty { OnOk result (self.new ≡ []) }
@@ -55,7 +55,7 @@ impl Gathered {
         write_out(&mut self.text, shelf)
     }
 
-    // Adds the line of a record, and lets the record go, so that none of those who make one has to.
+    // Adds the line of a record, and drops the record here so that no caller has to.
     pub(crate) fn add_line<S: Shelf>(
         &mut self,
         shelf: &mut S,
@@ -69,7 +69,6 @@ impl Gathered {
         }
     }
 
-    // Adds the line of a pattern.
     pub(crate) fn add_pattern<S: Shelf>(
         &mut self,
         shelf: &mut S,
@@ -84,7 +83,6 @@ impl Gathered {
         }
     }
 
-    // Adds the line of a class.
     pub(crate) fn add_class<S: Shelf>(
         &mut self,
         shelf: &mut S,
@@ -101,7 +99,6 @@ impl Gathered {
         }
     }
 
-    // Adds the line of a number with its mark.
     pub(crate) fn add_member<S: Shelf>(
         &mut self,
         shelf: &mut S,
@@ -120,7 +117,7 @@ impl Gathered {
     }
 }
 
-// Puts a line behind the text that waits, and writes both where they are a piece.
+// Appends `line` to the waiting text, and writes both if they are long enough for a piece.
 fn gather<S: Shelf>(text: &mut Vec<u8>, shelf: &mut S, line: &[u8]) -> Result<(), ShelfFault>
     ensures { Gathers line.now result text.old.items text.new.items (S.state shelf.old) (S.state shelf.new) }
 {
@@ -131,7 +128,7 @@ fn gather<S: Shelf>(text: &mut Vec<u8>, shelf: &mut S, line: &[u8]) -> Result<()
     write_out(text, shelf)
 }
 
-// Writes the text that waits.
+// Writes the waiting text.
 fn write_out<S: Shelf>(text: &mut Vec<u8>, shelf: &mut S) -> Result<(), ShelfFault>
     ensures gathers { Gathers [] result text.old.items text.new.items (S.state shelf.old) (S.state shelf.new) }
     ensures empty { OnOk result (text.new.items ≡ []) }

@@ -1,4 +1,4 @@
-//! Results, written piece by piece.
+//! `generate` and `top_up`: a result from the stream or from a list of vectors, written piece by piece.
 
 ghost use Rattle.std.specs.Prelude.{◌≡◌, ◌≤◌, ◌^◌, ℕ, List, IfOk, IfErr, OnErr, IsTrue, IsSome, IsErrOf, All, length};
 ghost use Rattle.diag_shelf.specs.World.{State};
@@ -22,10 +22,12 @@ use pair_sets::{covering_is_equal, full_tree_is_covered, leaves_are_closed};
 use result_file::{Budgets, Record, Summary};
 use std::alloc::Global;
 
-/// Generates a result and appends it to the file that is created, in pieces of whole lines. Before each search all lines that
-/// were made are written.
+/// Generates a result from the first blocks of the stream and appends it to the created file, in pieces of whole lines.
+/// Before each search all lines made so far are written.
 ///
-/// After an error a beginning of right lines was appended, the last perhaps cut.
+/// Returns `Failed` only if the count of write faults rose; on a sure shelf never. If it returns `NoMemory` on a sure
+/// shelf, no count rose. After any error the count of read faults is as before; if the shelf tells its files, a
+/// beginning of right lines was appended, the last perhaps cut, and all else is as before.
 pub fn generate<S: Shelf>(
     alloc: Global,
     circuit: &Circuit,
@@ -34,19 +36,22 @@ pub fn generate<S: Shelf>(
 ) -> Result<Summary, ShelfFault>
     requires limits { AreWithinLimits budgets }
 
-    // A shelf that tells its files has one that is written.
+    // A shelf that tells its files has a written file.
     requires created { IsTrue (S.state shelf.old).tells → IsSome (S.state shelf.old).world.written }
 
-    // It is a call that writes: where it answers `Failed` the count of write faults rose, and no other count changed.
+    // The call is one that writes: if it returns `Failed`, the count of write faults rose; the count of read faults
+    // doesn't change.
     ensures call { IsWriteCall result (S.state shelf.old) (S.state shelf.new) }
 
-    // A file is made that amounts to the summary. Where the shelf tells, it is what was appended.
+    // There is a file that the generator may make and that amounts to the summary. If the shelf tells its files, it is
+    // what was appended.
     ensures written { IfOk result (λ summary. (file : List ℕ) × IsMade circuit.now budgets summary file × Told (S.state shelf.old) (S.state shelf.new) (Writes file)) }
 
-    // With as many cubes as there are vectors no member is left open.
+    // If the budget has as many cubes as there are vectors, no member is left open.
     ensures complete { IfOk result (λ summary. 2 ^ circuit.now.sources ≤ budgets.cubes → summary.spent ≡ 0) }
 
-    // After an error there is a beginning of right lines, the last perhaps cut. Where the shelf tells, it is what was appended.
+    // After an error there is a beginning of right lines, the last perhaps cut. If the shelf tells its files, it is
+    // what was appended.
     ensures err { OnErr result ((part : List ℕ) × IsCutFile circuit.now part × Told (S.state shelf.old) (S.state shelf.new) (Writes part)) }
 
     // A sure shelf never fails.
@@ -61,17 +66,20 @@ pub fn generate<S: Shelf>(
     }
 }
 
-/// What a result amounts to that was made from a list of vectors, and how many vectors of the list were kept.
+/// The summary of a result that was made from a list of vectors, and the number of vectors of the list that were kept.
 #[derive(Clone, Copy, Debug, PartialEq, Eq)]
 pub struct ToppedUp {
     pub summary: Summary,
     pub kept: u32,
 }
 
-/// Generates a result from a list of vectors, and appends it as `generate` does. Of the list each vector is kept that splits a
-/// class of those kept before it. Then members are searched, as behind the stream: without budgets of cubes and conflicts none is.
+/// Generates a result from a list of vectors, and appends it as `generate` does. Keeps each vector of the list that
+/// splits a class of those kept before it. Then it settles members as `generate` does after the stream; without budgets
+/// of cubes and conflicts it searches none.
 ///
-/// After an error a beginning of right lines was appended, the last perhaps cut.
+/// Returns `Failed` only if the count of write faults rose; on a sure shelf never. If it returns `NoMemory` on a sure
+/// shelf, no count rose. After any error the count of read faults is as before; if the shelf tells its files, a
+/// beginning of right lines was appended, the last perhaps cut, and all else is as before.
 pub fn top_up<S: Shelf>(
     alloc: Global,
     circuit: &Circuit,
@@ -84,20 +92,22 @@ pub fn top_up<S: Shelf>(
     // Each vector has a bit for each source.
     requires widths { All (λ v. length v ≡ circuit.now.sources) vectors.now }
 
-    // A shelf that tells its files has one that is written.
+    // A shelf that tells its files has a written file.
     requires created { IsTrue (S.state shelf.old).tells → IsSome (S.state shelf.old).world.written }
 
-    // It is a call that writes: where it answers `Failed` the count of write faults rose, and no other count changed.
+    // The call is one that writes: if it returns `Failed`, the count of write faults rose; the count of read faults
+    // doesn't change.
     ensures call { IsWriteCall result (S.state shelf.old) (S.state shelf.new) }
 
-    // A file is made from the list that amounts to the summary, and so many vectors of the list are kept in it. Where the shelf
-    // tells, it is what was appended.
+    // There is a file that may be made from the list, amounts to the summary and has the given number of kept vectors.
+    // If the shelf tells its files, it is what was appended.
     ensures written { IfOk result (λ topped. (file : List ℕ) × IsToppedUp circuit.now vectors.now budgets topped file × Told (S.state shelf.old) (S.state shelf.new) (Writes file)) }
 
-    // With as many cubes as there are vectors no member is left open.
+    // If the budget has as many cubes as there are vectors, no member is left open.
     ensures complete { IfOk result (λ topped. 2 ^ circuit.now.sources ≤ budgets.cubes → topped.summary.spent ≡ 0) }
 
-    // After an error there is a beginning of right lines, the last perhaps cut. Where the shelf tells, it is what was appended.
+    // After an error there is a beginning of right lines, the last perhaps cut. If the shelf tells its files, it is
+    // what was appended.
     ensures err { OnErr result ((part : List ℕ) × IsCutFile circuit.now part × Told (S.state shelf.old) (S.state shelf.new) (Writes part)) }
 
     // A sure shelf never fails.
@@ -127,7 +137,7 @@ fn write_result<S: Shelf>(
     }
 }
 
-// Writes all lines of a result that is begun.
+// Writes all lines of a result for which `draft` has been begun.
 fn write_lines<S: Shelf>(
     alloc: Global,
     setting: &GenerationSetting,

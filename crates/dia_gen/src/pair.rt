@@ -1,4 +1,5 @@
-//! What becomes of a number and its representative.
+//! What settles a number and its representative, by a search or the solver: a cube whose vectors separate them, or
+//! evidence.
 
 ghost use Rattle.std.specs.Prelude.{◌≡◌, ◌≢◌, ◌<◌, ◌≤◌, Some, IfOk, OnOk, length, slice_set};
 ghost use Rattle.clause_pool.specs.Clauses.{BeginsWith};
@@ -14,24 +15,23 @@ use crate::ahead::Ahead;
 use crate::setting::GenerationSetting;
 use clause_pool::Pool;
 use distinguish_search::{Searched, search_with};
-use learn_solver::{Solved, solve};
+use learn_solver::{Solved, solve, trim};
 use net_model::{Fault, Vector};
 use pair_miter::{Log, Miter, MiterSpace};
 use pair_sets::{PairSim, Token, Tree};
 use result_file::Proof;
 use std::alloc::{AllocError, Global};
-use trimmed_logs::trim;
 
-// A cube whose vectors all separate the two, or evidence.
+// A cube whose vectors all separate the two, or evidence for them.
 #[derive(Drop)]
 pub(crate) enum Settled {
     Apart(Vec<Option<bool>>),
     By(Proof),
 }
 
-// What pairs are settled in, one after another, so that each costs what its faults reach: the simulation that a search
-// restarts, the space of miters, which is made for the first pair that the solver takes, the pool of their clauses, which is
-// empty between two pairs, and what is found of pairs ahead of their turn.
+// The space in which pairs are settled one after another, so that the cost of each depends on what its faults reach:
+// the simulation that a search restarts, the space of miters, which is made for the first pair that the solver takes,
+// the pool of their clauses, which is empty between two pairs, and what was found for pairs before their turn.
 #[derive(Drop)]
 pub(crate) struct PairSpace<'a> {
     pub(crate) sim: PairSim<'a>,
@@ -57,8 +57,8 @@ impl<'a> PairSpace<'a> {
     }
 }
 
-// Settles a pair of numbers: by their roots, else by what a search finds if there is a budget for it, else by what the solver
-// learns.
+// Settles a pair of numbers by their roots, else by what a search finds if there is a budget of cubes, else by what the
+// solver learns if there is a budget of conflicts.
 pub(crate) fn settle_pair(
     alloc: Global,
     setting: &GenerationSetting,
@@ -86,7 +86,8 @@ pub(crate) fn settle_pair(
     }
 }
 
-// What a search of cubes finds of a pair of numbers: what is known of them, else by a search now.
+// Returns what a search of cubes finds for a pair of numbers: what is already known of them, else the result of a
+// search now.
 pub(crate) fn find(
     alloc: Global,
     setting: &GenerationSetting,
@@ -107,7 +108,7 @@ pub(crate) fn find(
     search_cubes(alloc, setting, &mut space.sim, &f, &g)
 }
 
-// What a search of cubes finds: without a budget for it, the tree of one open leaf.
+// Searches cubes for a pair. Without a budget of cubes, returns the tree of one open leaf.
 fn search_cubes(
     alloc: Global,
     setting: &GenerationSetting,
@@ -130,7 +131,8 @@ fn search_cubes(
     Ok(Searched::Spent(tree))
 }
 
-// What the solver makes of a pair that a tree leaves open: without a budget for it, evidence without clauses.
+// Settles by the solver a pair that `tree` leaves open. Without a budget of conflicts, returns `Spent` evidence with an
+// empty log.
 fn learn(
     alloc: Global,
     setting: &GenerationSetting,
@@ -186,8 +188,8 @@ fn settle_miter(
     }
 }
 
-// What the solver answers for the pair of a miter within so many conflicts, where the pool has the miter's clauses.
-// A refutation comes without the chains that its end doesn't need.
+// Returns what the solver finds for the pair of `miter` within `conflicts` conflicts. The pool has the miter's clauses.
+// A refutation has only the chains that its end needs.
 fn solve_pair(
     alloc: Global,
     miter: &Miter,
@@ -209,7 +211,7 @@ fn solve_pair(
     }
 }
 
-// The cube of the bits that a vector has at the relevant sources of a miter's faults. The others are free.
+// Returns the cube of the bits that `v` has at the relevant sources of the miter's faults. Its other sources are free.
 fn cube_of(alloc: Global, miter: &Miter, v: &Vector) -> Result<Vec<Option<bool>>, AllocError>
     requires { length v.now ≡ miter.now.circuit.sources }
     ensures width { IfOk result (λ cube. length cube.items ≡ length v.now) }
@@ -223,7 +225,7 @@ fn cube_of(alloc: Global, miter: &Miter, v: &Vector) -> Result<Vec<Option<bool>>
     Ok(cube)
 }
 
-// Gives a cube the bit that a vector has at a source. Other lines have none.
+// Fixes `line` in the cube at the bit that `v` has there, if `line` is a source.
 fn fix_source(cube: &mut Vec<Option<bool>>, v: &Vector, line: u32)
     requires { length cube.old.items ≡ length v.now }
     ensures source { line < length v.now → cube.new.items ≡ slice_set cube.old.items line (Some (bit_at v.now line)) }

@@ -1,4 +1,5 @@
-//! What a result is made for.
+//! What a result is made for: the circuit with its faults and their roots, the levels of its lines, the budgets, and
+//! where its first vectors come from; and what is kept of these.
 
 ghost use Rattle.std.specs.Prelude.{◌≡◌, ◌<◌, ◌↔◌, ◌^◌, [], All, IsTrue, IfOk, OnOk, length};
 ghost use Rattle.net_model.specs.Circuit.{IsCircuit};
@@ -18,8 +19,8 @@ use result_file::Budgets;
 use std::alloc::{AllocError, Global};
 use std::marker::Model;
 
-// Where the vectors come from of which those that split a class are kept before any pair is searched: the first blocks of the
-// stream, as many as the budget has, or a list.
+// Where the first vectors come from: the first blocks of the stream, as many as the budget has, or a list. Those that
+// split a class are kept before any pair is searched.
 #[derive(Clone, Copy)]
 pub(crate) enum FirstVectors<'a> {
     OfStream,
@@ -69,7 +70,6 @@ impl<'a> GenerationSetting<'a> {
         self.subject.circuit()
     }
 
-    // The levels of the circuit's lines.
     pub(crate) fn levels(&self) -> &'a Levels {
         self.levels
     }
@@ -81,7 +81,7 @@ impl<'a> GenerationSetting<'a> {
         self.budgets
     }
 
-    // How many fault numbers the circuit has.
+    // Returns the number of faults that the circuit lists.
     pub(crate) fn numbers(&self) -> u32
         ensures value { result ≡ fault_count self.now.circuit }
         ensures few { result < 2 ^ 27 }
@@ -89,7 +89,6 @@ impl<'a> GenerationSetting<'a> {
         self.subject.numbers()
     }
 
-    // The fault with a number.
     pub(crate) fn fault(&self, number: u32) -> Fault
         requires { number < fault_count self.now.circuit }
         ensures value { result ≡ fault_numbered self.now.circuit number }
@@ -98,7 +97,7 @@ impl<'a> GenerationSetting<'a> {
         self.subject.fault(number)
     }
 
-    // The number of each number's root.
+    // Returns for each number the number of its root.
     pub(crate) fn roots(&self) -> &[u32]
         ensures count { length result.now ≡ fault_count self.now.circuit }
         ensures within { All (λ root. root < length result.now) result.now }
@@ -106,8 +105,8 @@ impl<'a> GenerationSetting<'a> {
         self.subject.forest().roots()
     }
 
-    // For how many of the next numbers that wait a cube is sought before a block is looked at: a 1,024th of all, at least 64 and
-    // at most 256, and none without a budget of cubes.
+    // Returns for how many of the next open numbers a cube is searched before a block is looked at: a 1,024th of all
+    // numbers, at least 64 and at most 256; 0 without a budget of cubes.
     pub(crate) fn ahead(&self) -> u32 {
         if self.budgets.cubes == 0 {
             return 0;
@@ -115,7 +114,7 @@ impl<'a> GenerationSetting<'a> {
         (self.numbers() / 1024).max(64).min(256)
     }
 
-    // Whether the faults with these numbers have the same root.
+    // Returns whether the faults numbered `a` and `b` have the same root.
     pub(crate) fn same_root(&self, a: u32, b: u32) -> bool
         requires first { a < fault_count self.now.circuit }
         requires second { b < fault_count self.now.circuit }
@@ -124,7 +123,7 @@ impl<'a> GenerationSetting<'a> {
         self.subject.same_root(a, b)
     }
 
-    // A keeper of vectors for the circuit, which keeps those of the first vectors that it needs.
+    // Returns a keeper of vectors for the circuit that keeps each of the first vectors that splits a class.
     pub(crate) fn keeper(&self, alloc: Global) -> Result<Keeper<'a>, AllocError>
         ensures is_circuit { IsCircuit self.now.circuit }
         ensures limits { AreWithinLimits self.now.budgets }
@@ -138,7 +137,7 @@ impl<'a> GenerationSetting<'a> {
         Ok(keeper)
     }
 
-    // Keeps of the first vectors those that split a class.
+    // Keeps each of the first vectors that splits a class.
     fn keep_first(&self, keeper: &mut Keeper) -> Result<(), AllocError>
         requires { keeper.old.circuit ≡ self.now.circuit }
         ensures circuit { keeper.new.circuit ≡ self.now.circuit }

@@ -1,4 +1,4 @@
-//! Lines that are written to a shelf piece by piece.
+//! The lines of the result: head, patterns, classes and members.
 
 ghost use Rattle.std.specs.Prelude.{◌≡◌, ◌∷◌, ◌<◌, ◌-◌, [], map, length, slice_index_or};
 ghost use Rattle.net_model.specs.ClassTable.{number_range};
@@ -18,7 +18,6 @@ use member_marks::Marks;
 use net_model::Vector;
 use result_file::Record;
 
-// Adds the line of the last pattern.
 pub(crate) fn write_last<S: Shelf>(
     gathered: &mut Gathered,
     shelf: &mut S,
@@ -45,7 +44,6 @@ pub(crate) fn write_head<S: Shelf>(
     gathered.add_line(shelf, Record::Budget(setting.budgets()))
 }
 
-// Adds a line for each pattern.
 pub(crate) fn write_patterns<S: Shelf>(
     gathered: &mut Gathered,
     shelf: &mut S,
@@ -59,7 +57,6 @@ pub(crate) fn write_patterns<S: Shelf>(
     Ok(())
 }
 
-// Adds a line for each class.
 pub(crate) fn write_classes<S: Shelf>(
     gathered: &mut Gathered,
     shelf: &mut S,
@@ -73,7 +70,6 @@ pub(crate) fn write_classes<S: Shelf>(
     Ok(())
 }
 
-// Adds a line for each number.
 pub(crate) fn write_members<S: Shelf>(
     gathered: &mut Gathered,
     shelf: &mut S,

@@ -36,7 +36,7 @@ module _ (c : Circuit) where
   IsWide v = length v ≡ c.sources
 
   module _ (all : List Record) (right : AreRightLines c all) where
-    -- a record more
+    -- One record more.
     put : (before : List Record) (r : Record) (rest : List Record) → all ≡ before ++ r ∷ rest → all ≡ (before ++ r ∷ []) ++ rest
     put before r rest e = e ∙ sym (append_assoc before (r ∷ []) rest)
 

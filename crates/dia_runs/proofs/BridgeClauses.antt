@@ -26,20 +26,20 @@ use Rattle.text_fields.specs.Fields.{Text}
 use Rattle.dia_runs.specs.BridgePromises.{ListsNoBridge, WinnersExplainAsStuck}
 use Rattle.dia_runs.proofs.ResultLogs.{records_once}
 
--- the laws by which more is promised of bridges than their list
+-- The laws by which more is promised of bridges than their list.
 pub record BridgeLaws : Type 0 where
   pub nothing : NothingFails
   pub winners : DominatesAsStuck
   pub spelling : OneSpelling
   pub line : SpellingIsLine
 
--- the lines of a log for a result are of its patterns
+-- The lines of a log for a result have numbers of its patterns.
 pub lines_at : BridgeLaws → {c : Circuit} {result bytes : Text} {lines : List Line} → IsLogAt c result bytes lines → (of : AreValidBytes c result) → All (λ line. line.0 < length (patterns_in of.records)) lines
 lines_at laws {c} {result} {bytes} {lines} at of =
     let same : at.of.records ≡ of.records = records_once laws.spelling laws.line at.of of in
     subst (λ (records : List Record). All (λ (line : Line). line.0 < length (patterns_in records)) lines) same (lines_inside (length (patterns_in at.of.records)) (length c.positions) lines at.log.are)
 
--- no classes, which the expected log doesn't need
+-- No classes: the expected log needs none.
 abbrev no_classes : ClassTable
 no_classes = record { class_of = []; births = []; patterns = 0 }
 

@@ -29,7 +29,7 @@ use Rattle.dia_runs.specs.Promises.{KeepsUnlessDone, WasRead, LeavesResult, Gene
 use Rattle.dia_runs.proofs.Judged.{EvidenceLaws, sound_design, circuit_of}
 use Rattle.dia_runs.proofs.PlanLemmas.{both_end, refused_where}
 
--- What was read and accepted before the work was done.
+-- The file was read and accepted, and `Then` holds of what it was accepted as.
 pub record WasDone (files : Files) (name : Text) {X : Type 0} (Accepted : Text → X → Type 0) (Then : X → Type 0) : Type 0 where
   pub read : WasRead files name Accepted
   pub then : Then read.thing
@@ -44,7 +44,7 @@ last_made : (before : List (Text × Text)) (result file : Text) (files : Files) 
 last_made [] result file files = get_at_insert files result file
 last_made (m ∷ before) result file files = last_made before result file (insert files m.0 m.1)
 
--- the file of a result that was made, and what was printed of it
+-- The file of a result that was made, and what was printed of it.
 pub held_by : {before : List (Text × Text)} {result : Text} {AreMade : Text → Text → Type 0} {o : Outcome} {old new : World} → (made : MakesResult before result AreMade o) → Leaves o.made o.console old new → get new.files result ≡ Some made.file
 held_by {before} {result} {AreMade} {o} {old} {new} made leaves =
     ap (λ (f : Files). get f result) (leaves.files ∙ ap (λ (p : Outcome). after_made p.made old.files) made.outcome) ∙ last_made before result made.file old.files
@@ -64,7 +64,7 @@ leaves_result laws {bytes} {result} {budgets} {before} {design} {o} {old} {new} 
   printed = printed_by does leaves ∙ ap (λ (t : Text). old.console ++ t) does.made.text_is;
 }
 
--- a netlist and a result that were accepted
+-- A netlist and a result that were accepted.
 abbrev pub true_result : {files : Files} {bench result bytes read spelled : Text} {design : Design} {records : List Record} → (law : ValidIsTrue) → get files bench ≡ Some bytes → (accepted : IsDesign bytes design) → get files result ≡ Some read
     → IsResult design.circuit read spelled → spelled ≡ text_of records → (valid : IsValid design.circuit records) → HoldsTrueResult bench result files
 true_result {files} {bench} {result} {bytes} {read} {spelled} {design} {records} law held accepted there found is valid =
@@ -82,7 +82,7 @@ true_result {files} {bench} {result} {bytes} {read} {spelled} {design} {records}
     }
 
 module _ {asked : Option Request} {ending : Ending} {old new : World} (called : IsDone (plan_of asked) ending old new) where
-  -- what was done where the work is done
+  -- What was done if the work is done.
   pub done_for : (request : Request) → asked ≡ Some request → ending ≡ done → (o : Outcome) × CallsFor old.files (plan_of (Some request)) o × (o.ending ≡ done) × Leaves o.made o.console old new
   done_for request is z =
       let d = called (subst IsDecided (sym z) tt) in
@@ -129,7 +129,7 @@ module _ {asked : Option Request} {ending : Ending} {old new : World} (called : 
 
 -- ---- endings
 
--- all endings of a list are such
+-- Each ending of the list is such.
 abbrev AreAll : (Ending → Type 0) → List Ending → Type 0
 AreAll P [] = Unit {0}
 AreAll P (x ∷ xs) = P x × AreAll P xs
@@ -139,7 +139,7 @@ among_all P [] ending all among = absurd among
 among_all P (x ∷ endings) ending all (inl e) = subst P (sym e) all.0
 among_all P (x ∷ endings) ending all (inr among) = among_all P endings ending all.1 among
 
--- it isn't that of words that ask for nothing
+-- The ending isn't that of words that ask for nothing.
 abbrev IsOfRequest : Ending → Type 0
 IsOfRequest (Ok x) = Unit {0}
 IsOfRequest (Err NotUnderstood) = ⊥
@@ -182,7 +182,7 @@ not_understood_of None {ending} (inr (inr (inl e))) is = inr (inr e)
 not_understood_of None {ending} (inr (inr (inr e))) is = absurd e
 not_understood_of (Some request) {ending} among is = absurd (cc)
 
--- How a run has ended: words and files decide that, or a read failed, or the run was broken off.
+-- How a run has ended: words and files decide that, or a read failed, or the run broke off.
 pub data HasEnded (ending : Ending) : Type 0 where
   by_files : IsDecided ending → HasEnded ending
   by_read : ending ≡ read_failed → HasEnded ending
@@ -196,7 +196,7 @@ ended (Err ReadFailed) = by_read refl
 ended (Err WriteFailed) = by_break (inl refl)
 ended (Err NoMemory) = by_break (inr refl)
 
--- ---- no file but by a run that is done
+-- ---- no file is changed except by a run whose work is done
 
 kept_by : {made : List (Text × Text)} {text : Text} {old new : World} → made ≡ [] → Leaves made text old new → KeepsFiles old new
 kept_by {made} {text} {old} {new} none l = record {
@@ -286,7 +286,7 @@ module _ (once : FilesAreJudgedOnce) where
     accepted = λ all decided. let d = run decided in sym d.2 ∙ done_by request old.files d.0 d.1 all;
   }
 
-  -- ---- no file where something is refused
+  -- ---- no file is changed if something is refused
 
   none_called : (asked : Option Request) (old : World) (o : Outcome) → IsRefusedRequest asked old → CallsFor old.files (plan_of asked) o → o.made ≡ []
   none_called None old o wrong called = ap (λ (p : Outcome). p.made) called

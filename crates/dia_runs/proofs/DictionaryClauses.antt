@@ -22,7 +22,7 @@ use Rattle.run_steps.specs.Ran.{IsDone}
 use Rattle.dia_runs.specs.DictionaryRuns.{MakesDictionary, ConvertsDictionary, PrintsDiagnosis, DiagnosesAlike}
 use Rattle.dia_runs.proofs.Clauses.{accepted_by, true_result, done_for}
 
--- the file that was made, and the text that was printed
+-- The file that was made, and the text that was printed.
 pub file_made : (o : Outcome) {name file : Text} {old new : World} → o.made ≡ (name, file) ∷ [] → Leaves o.made o.console old new → get new.files name ≡ Some file
 file_made o {name} {file} {old} {new} is leaves = ap (λ (f : Files). get f name) (leaves.files ∙ ap (λ (m : List (Text × Text)). after_made m old.files) is) ∙ get_at_insert old.files name file
 
@@ -69,7 +69,7 @@ module _ {asked : Option Request} {ending : Ending} {old new : World} (called : 
 -- ---- two files of one dictionary
 
 module _ (wrong : RefusedIsWrong) (one : OneDictionary) (files : Files) (d : Dict) (next : Dict → Plan) where
-  -- what is called for with the one is called for with the other
+  -- What is called for with one file is called for with the other.
   moved : (name other bytes whole : Text) → get files name ≡ Some bytes → IsFileOf d bytes → get files other ≡ Some whole → IsFileOf d whole → (o : Outcome) → CallsFor files (with_dictionary name next) o → CallsFor files (with_dictionary other next) o
   moved name other bytes whole held is there also o (refused_file read console found refused at) =
       absurd (wrong bytes d refused.fault (subst (λ (b : Text). IsRefusedBy b refused.fault) (same_Some read bytes (sym found ∙ held)) refused.refused) is)

@@ -1,4 +1,5 @@
--- The patterns of a valid result can be numbered in 32 bits: each splits a class, and there are no more classes than fault numbers.
+-- The patterns of a valid result can be numbered in 32 bits: each splits a class, and there are no more classes than
+-- fault numbers.
 use Rattle.std.proofs.Common.{◌≡◌, ◌∙◌, ℕ, zero, suc, ◌<◌, ◌≤◌, ◌^◌, List, [], ◌∷◌, ◌++◌, length, take, fold, refl, sym, ap, subst, arith}
 use Rattle.std.specs.Prelude.{Bool, flat_map, ◌*◌}
 use Rattle.std.specs.List.{AllZip}
@@ -33,13 +34,13 @@ fold_more : {A B : Type 0} (f : B → A → B) (b : B) (xs : List A) (x : A) →
 fold_more f b [] x = refl
 fold_more f b (y ∷ xs) x = fold_more f (f b y) xs x
 
--- each site is stuck at 0 and at 1
+-- Each site is stuck at 0 and at 1.
 doubled : (sites : List Site) → length (flat_map both_stuck sites) ≡ 2 * length sites
 doubled [] = refl
 doubled (site ∷ sites) = omega (arith, doubled sites)
 
 module _ (c : Circuit) (circuit : IsCircuit c) where
-  -- no pattern, or one more
+  -- The tables of no pattern, and of one pattern more.
   no_patterns : IsTableOf c [] (first_table (fault_count c))
   no_patterns = record { rows = []; answers = tt; table = refl }
 

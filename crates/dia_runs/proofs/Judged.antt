@@ -66,7 +66,7 @@ pub record HasLaws : Type 0 where
   pub one_walk : OneOutcome
   pub lists : RefusedListIsWrong
   pub one_list : OneListReading
-  -- and no file is refused with two texts
+  -- The laws by which no file is refused with two texts.
   pub refusal : OneRefusal
   pub loop_walk : OneWalk
   pub result_refusal : OneFileRefusal
@@ -94,7 +94,7 @@ circuit_of {bytes} {design} is = subst (λ (d : Design). IsCircuit d.circuit) (s
 
 -- ---- no file is refused with two texts
 
--- a loop of a netlist has one walk, so one place and one list of names
+-- A loop of a netlist has one walk, and so one place and one list of names.
 one_loop : HasLaws → {n : Netlist} {place other : Place} {names others : List Text} → IsNetlistLoop n place names → IsNetlistLoop n other others → (place ≡ other) × (names ≡ others)
 one_loop laws {n} {place} {other} {names} {others} one two =
     let walk : one.walk ≡ two.walk = laws.loop_walk (cut_circuit n) one.walk two.walk one.is_walk two.is_walk in
@@ -112,7 +112,7 @@ one_netlist_refusal laws {bytes} {console} {other} (by_loop netlist place names 
     let once : (place ≡ place') × (names ≡ names') = one_loop laws loops (subst (λ (n : Netlist). IsNetlistLoop n place' names') same loops') in
     is ∙ ap₂ loop_text once.0 once.1 ∙ sym said
 
--- a log or a list of vectors
+-- A log or a list of vectors is refused with one text.
 said_once : {Refused : LogKind → ℕ → Type 0} {console other : Text} → ((kind also : LogKind) (line number : ℕ) → Refused kind line → Refused also number → (kind ≡ also) × (line ≡ number)) → IsRefusedBySome Refused console → IsRefusedBySome Refused other → console ≡ other
 said_once {Refused} {console} {other} once one two =
     let same : (one.kind ≡ two.kind) × (one.line ≡ two.line) = once one.kind two.kind one.line two.line one.refused two.refused in
@@ -165,7 +165,7 @@ clear_partial_of laws patterns positions few = record {
 clear_partial : HasLaws → (d : Dict) → d.patterns ≤ 67108864 → IsClearFile (List Line) (IsRefusedPartial d) (IsPartialFor d)
 clear_partial laws d few = clear_partial_of laws d.patterns d.positions (omega (arith, few))
 
--- of a list of vectors
+-- A partial log of a list of vectors.
 clear_log_of : HasLaws → (c : Circuit) {bytes : Text} {list : List (List Bool)} → IsListFor c bytes list → IsClearFile (List Line) (IsRefusedPartialOf (length list) (length c.positions)) (IsPartialLog (length list) (length c.positions))
 clear_log_of laws c {bytes} {list} read = clear_partial_of laws (length list) (length c.positions) (few_vectors read)
 
@@ -193,7 +193,7 @@ clear_list laws c = record {
   one_refusal = λ bytes console other. said_once (λ kind also line number. laws.list_refusal c.sources bytes kind also line number);
 }
 
--- in a command that may read a log too
+-- A list of vectors in a command that may read a log too.
 clear_vectors : HasLaws → (c : Circuit) → IsClearFile (List (List Bool)) (IsRefusedVectors c) (IsListFor c)
 clear_vectors laws c = record {
   apart = λ bytes console vectors is refused. laws.lists c.sources bytes vectors refused.kind refused.line refused.refused is;
@@ -234,7 +234,7 @@ clear laws (follow plan log) = (clear_plan laws, λ bytes adaptive is. (clear_wa
 
 -- ---- what evidence means
 
--- the laws by which evidence is sound
+-- The laws by which evidence is sound.
 pub record EvidenceLaws : Type 0 where
   pub roots : SameRootEqual
   pub covering : CoveringEqual

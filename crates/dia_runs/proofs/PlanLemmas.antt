@@ -1,4 +1,4 @@
--- A plan of which no file is both refused and accepted ends in one way.
+-- A plan ends in one way if none of its files is both refused and accepted.
 use Rattle.std.proofs.Common.{◌≡◌, ◌≢◌, List, refl, sym, ap, subst, ◌∙◌}
 use Rattle.std.proofs.lemmas.Option.{same_Some}
 use Rattle.diag_shelf.specs.World.{Files}
@@ -9,7 +9,7 @@ use Rattle.run_steps.specs.Outcome.{Outcome}
 use Rattle.run_steps.specs.Plan.{Plan, finish, judged, refused_file, accepted_file, IsClear, EndsIn, CallsFor, IsRefusedWith}
 
 module _ (files : Files) where
-  -- what follows of two facts of where a plan ends
+  -- What follows from two facts of where a plan ends.
   module _ (R S : FileKind → Text → Type 0) (E F : (Outcome → Type 0) → (List (Text × Text) → Text → Type 0) → Type 0) {T : Type 0} (at_refusal : (kind : FileKind) (text other : Text) → R kind text → S kind other → T)
       (at_end : (Done : Outcome → Type 0) (Cut : List (Text × Text) → Text → Type 0) → ((o : Outcome) → Done o → o.ending ≡ done) → E Done Cut → F Done Cut → T) where
     pub both_end : (plan : Plan) → IsClear plan → EndsIn files R E plan → EndsIn files S F plan → T
@@ -23,7 +23,7 @@ module _ (files : Files) where
         let one : x ≡ y = clear.0.once bytes x y accepted (subst (λ (b : Text). Accepted b y) (same_Some bytes' bytes (sym held' ∙ held)) accepted') in
         both_end (next y) (clear.1 bytes' y accepted') (subst (λ (z : X). EndsIn files R E (next z)) one ends) ends'
 
-  -- where an outcome that is called for isn't the work done, a file is refused
+  -- If an outcome that is called for isn't that the work is done, a file is refused.
   pub refused_where : (o : Outcome) (plan : Plan) → IsClear plan → CallsFor files plan o → o.ending ≢ done → (kind : FileKind) × (o.ending ≡ refused kind) × IsRefusedWith files plan kind o.console
   refused_where o (finish Done Cut) clear does not = absurd (not (clear o does))
   refused_where o (judged name kind X Refused Accepted next) clear (refused_file bytes text held wrong is) not = (kind, ap (λ (p : Outcome). p.ending) is, refused_file bytes text held wrong (refl, ap (λ (p : Outcome). p.console) is))

@@ -18,7 +18,7 @@ use Rattle.run_steps.specs.Ran.{IsDone}
 use Rattle.dia_runs.specs.Rankings.{PrintsRanking}
 use Rattle.dia_runs.proofs.Clauses.{done_for, accepted_by}
 
--- the laws by which a whole log is ranked as it is listed
+-- The laws by which a whole log is ranked as it is listed.
 pub record RankingLaws : Type 0 where
   pub partial : LogIsPartial
   pub reading : OnePartialReading

@@ -1,4 +1,4 @@
--- From the record of a run's plan to all that is promised of the run.
+-- The record of a run's plan gives all that is promised of the run.
 use Rattle.std.proofs.Common.{Option}
 use Rattle.diag_shelf.specs.World.{State}
 use Rattle.result_file.specs.Laws.{ValidIsTrue}

@@ -1,4 +1,5 @@
--- What follows from the record of a run that writes the log of a chip without a fault, lists suspects, a cover or bridges.
+-- What follows from the record of a run that writes the log of a chip without a fault, or lists suspects, a cover or
+-- bridges.
 use Rattle.std.proofs.Common.{Option, ap}
 use Rattle.diag_shelf.specs.World.{World}
 use Rattle.result_file.specs.Laws.{ValidIsTrue}

@@ -1,4 +1,5 @@
--- What the runs of `expect`, `suspects`, `cover` and `bridges` leave whose work is done, with a list of vectors that were applied.
+-- What runs of `expect`, `suspects`, `cover` and `bridges` with a list of vectors that were applied leave if their work
+-- is done.
 use Rattle.std.specs.Prelude.{◌≡◌, ◌<◌, ℕ, length, Option, Some}
 use Rattle.std.specs.FinMap.{get}
 use Rattle.diag_shelf.specs.World.{World}
@@ -17,14 +18,14 @@ use Rattle.listing_commands.specs.Applied.{IsExpectedAt, IsSuspectsAt, IsCoverAt
 use Rattle.dia_runs.specs.BridgePromises.{ListsNoBridge, WinnersExplainAsStuck}
 use Rattle.dia_runs.specs.Promises.{WasRead, HoldsTrueResult}
 
--- Each number that is stated to be equal is of one class with the lowest of its stated class.
+-- Each number that the result states to be equal is of one class with the lowest of its stated class.
 abbrev pub EqualStayTogether : Circuit → StatedResult → ClassTable → Type 0
 EqualStayTogether c s t = (n : ℕ) → n < fault_count c → stated_mark s n ≡ mark.Equal → class_at t n ≡ class_at t (lowest_mate s n)
 
 -- ---- the log of a chip without a fault
 
--- The result is valid and true. Under the log's name is what a chip without a fault answers to the list's vectors, and the console gained
--- its sizes.
+-- The result is valid and true. The file of the log's name has what a chip without a fault answers to the list's
+-- vectors, and the console gained the log's sizes.
 pub record HasExpectedAt (bench result log vectors : Text) (old new : World) : Type 0 where
   pub read : HoldsTrueResult bench result old.files
   pub list : WasRead old.files vectors (IsListFor read.design.circuit)
@@ -34,13 +35,14 @@ pub record HasExpectedAt (bench result log vectors : Text) (old new : World) : T
   pub made : IsExpectedAt read.design.circuit list.thing file text
   pub printed : ConsoleGained text old new
 
--- A run of `expect` with a list whose work is done leaves them.
+-- If this is a run of `expect` with a list and its work is done, `HasExpectedAt` holds.
 abbrev pub WritesExpectedAt : Option Request → Ending → World → World → Type 0
 WritesExpectedAt request ending old new = (bench result log vectors : Text) → request ≡ Some (expect_at bench result log vectors) → ending ≡ done → HasExpectedAt bench result log vectors old new
 
 -- ---- suspects
 
--- The result is valid and true. The console gained the suspects of the log of the list's vectors, the first so many at most.
+-- The result is valid and true. The console gained the suspects of the log of the list's vectors, at most `most` of
+-- them.
 pub record HasSuspectsAt (bench result log : Text) (most : ℕ) (vectors : Text) (old new : World) : Type 0 where
   pub read : HoldsTrueResult bench result old.files
   pub list : WasRead old.files vectors (IsListFor read.design.circuit)
@@ -51,7 +53,7 @@ pub record HasSuspectsAt (bench result log : Text) (most : ℕ) (vectors : Text)
   pub equal : EqualStayTogether read.design.circuit read.is_true.stated listed.classes
   pub printed : ConsoleGained text old new
 
--- A run of `suspects` with a list whose work is done prints them.
+-- If this is a run of `suspects` with a list and its work is done, `HasSuspectsAt` holds.
 abbrev pub PrintsSuspectsAt : Option Request → Ending → World → World → Type 0
 PrintsSuspectsAt request ending old new = (bench result log : Text) (most : ℕ) (vectors : Text) → request ≡ Some (suspects_at bench result log most vectors) → ending ≡ done → HasSuspectsAt bench result log most vectors old new
 
@@ -68,14 +70,16 @@ pub record HasCoverAt (bench result log vectors : Text) (old new : World) : Type
   pub equal : EqualStayTogether read.design.circuit read.is_true.stated covers.classes
   pub printed : ConsoleGained text old new
 
--- A run of `cover` with a list whose work is done prints it.
+-- If this is a run of `cover` with a list and its work is done, `HasCoverAt` holds.
 abbrev pub PrintsCoverAt : Option Request → Ending → World → World → Type 0
 PrintsCoverAt request ending old new = (bench result log vectors : Text) → request ≡ Some (cover_at bench result log vectors) → ending ≡ done → HasCoverAt bench result log vectors old new
 
 -- ---- bridges
 
--- The result is valid and true. The console gained the bridges of the log of the list's vectors that explain all of its failing patterns but
--- so many, the first so many of them.
+-- The result is valid and true. The console gained the bridges without a loop that explain some failing pattern of the
+-- log of the list's vectors, and all except at most `within`, best first, at most `most` of them. If no pattern fails
+-- none is listed. A dominant bridge without a loop whose first line shows one bit at every logged pattern explains what
+-- the stem of its second line does, stuck at this bit.
 pub record HasBridgesAt (bench result log : Text) (most within : ℕ) (vectors : Text) (old new : World) : Type 0 where
   pub read : HoldsTrueResult bench result old.files
   pub list : WasRead old.files vectors (IsListFor read.design.circuit)
@@ -86,6 +90,6 @@ pub record HasBridgesAt (bench result log : Text) (most within : ℕ) (vectors :
   pub winners : WinnersExplainAsStuck read.design.circuit list.thing listed.are.table lines.thing
   pub printed : ConsoleGained text old new
 
--- A run of `bridges` with a list whose work is done prints them.
+-- If this is a run of `bridges` with a list and its work is done, `HasBridgesAt` holds.
 abbrev pub PrintsBridgesAt : Option Request → Ending → World → World → Type 0
 PrintsBridgesAt request ending old new = (bench result log : Text) (most within : ℕ) (vectors : Text) → request ≡ Some (bridges_at bench result log most within vectors) → ending ≡ done → HasBridgesAt bench result log most within vectors old new

@@ -1,4 +1,4 @@
--- What a run of `compact` whose work is done leaves.
+-- What a run of `compact` leaves if its work is done.
 use Rattle.std.specs.Prelude.{◌≡◌, Option, Some}
 use Rattle.std.specs.FinMap.{get}
 use Rattle.diag_shelf.specs.World.{World}
@@ -11,8 +11,8 @@ use Rattle.result_commands.specs.Texts.{dropped_text}
 use Rattle.run_steps.specs.Outcome.{ConsoleGained}
 use Rattle.dia_runs.specs.Promises.{HoldsTrueResult}
 
--- The result is valid and true. Under the new name is what is left of it, which is valid, has the same classes and no pattern too many. The
--- console gained what it amounts to, and how many patterns it has fewer.
+-- The result is valid and true. The file of the new name has what is left of it, which is valid, has the same classes
+-- and no pattern too many. The console gained what that amounts to, and how many patterns were dropped.
 pub record HasCompacted (bench result name : Text) (old new : World) : Type 0 where
   pub read : HoldsTrueResult bench result old.files
   pub thin : Thin
@@ -21,6 +21,6 @@ pub record HasCompacted (bench result name : Text) (old new : World) : Type 0 wh
   pub saved : get new.files name ≡ Some thin.text
   pub printed : ConsoleGained (dropped_text thin.summary thin.dropped) old new
 
--- A run of `compact` whose work is done leaves that.
+-- If this is a run of `compact` and its work is done, `HasCompacted` holds.
 abbrev pub CompactsResult : Option Request → Ending → World → World → Type 0
 CompactsResult request ending old new = (bench result name : Text) → request ≡ Some (compact bench result name) → ending ≡ done → HasCompacted bench result name old new

@@ -3,7 +3,7 @@ use Rattle.std.specs.Prelude.{⊤}
 use Rattle.request_words.specs.declared.request.Request.{Request}
 use Rattle.request_words.specs.declared.request.Request.TheVariants.{Gen, TopUp, Check, MakeDict, Convert, Diagnose, ListFaults, Simulate, Synth, Compact, Rank, Adapt, Follow, Expect, Suspects, Cover, Bridges, ExpectAt, SuspectsAt, CoverAt, BridgesAt}
 
--- it makes or checks a result, or leaves out patterns of one
+-- The request makes or checks a result, or leaves out patterns of one.
 abbrev pub IsOfResults : Request → Type 0
 IsOfResults (Gen bench result budgets) = ⊤
 IsOfResults (TopUp bench vectors result budgets) = ⊤
@@ -27,7 +27,7 @@ IsOfResults (SuspectsAt bench result log most vectors) = ⊥
 IsOfResults (CoverAt bench result log vectors) = ⊥
 IsOfResults (BridgesAt bench result log most within vectors) = ⊥
 
--- it is about a dictionary or an adaptive plan
+-- The request is about a dictionary or an adaptive plan.
 abbrev pub IsOfDictionaries : Request → Type 0
 IsOfDictionaries (Gen bench result budgets) = ⊥
 IsOfDictionaries (TopUp bench vectors result budgets) = ⊥
@@ -51,7 +51,8 @@ IsOfDictionaries (SuspectsAt bench result log most vectors) = ⊥
 IsOfDictionaries (CoverAt bench result log vectors) = ⊥
 IsOfDictionaries (BridgesAt bench result log most within vectors) = ⊥
 
--- it lists something of a netlist, a list of vectors or a result, and no list of vectors was applied
+-- The request lists something of a netlist, a list of vectors or a result, or writes the log of a good chip, and no
+-- list of vectors was applied.
 abbrev pub IsOfListings : Request → Type 0
 IsOfListings (Gen bench result budgets) = ⊥
 IsOfListings (TopUp bench vectors result budgets) = ⊥

@@ -7,7 +7,7 @@ use Rattle.diagnose.specs.declared.lines.TheConstants.{TEXT_LIMIT}
 use Rattle.run_steps.specs.declared.ending.FileKind.TheVariants.{Netlist, Result, Dictionary, Log, AdaptivePlan}
 use Rattle.run_steps.specs.Limits.{limit_of}
 
--- Beyond these numbers of bytes, those of `limit_of`, files are refused as too long.
+-- The limits of the readers, beyond which a file is refused as too long, are the numbers of `limit_of`.
 pub record HaveLimits : Type 0 where
   pub netlist : NETLIST_LIMIT ≡ limit_of Netlist
   pub result : RESULT_LIMIT ≡ limit_of Result

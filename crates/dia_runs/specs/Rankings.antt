@@ -1,4 +1,4 @@
--- What a run of `rank` whose work is done leaves.
+-- What a run of `rank` leaves if its work is done.
 use Rattle.std.specs.Prelude.{◌≡◌, ℕ, Bool, List, Option, Some}
 use Rattle.diag_shelf.specs.World.{World}
 use Rattle.dict_rows.specs.Dictionary.{listed_numbers}
@@ -12,8 +12,9 @@ use Rattle.run_steps.specs.Outcome.{ConsoleGained}
 use Rattle.dictionary_commands.specs.Rankings.{IsRankText}
 use Rattle.dia_runs.specs.Promises.{WasRead}
 
--- The console gained the numbers whose mismatches with the partial log are within so much of the least, ranked, how many they are, and
--- the least. Where the log is whole and all in it was observed, those ranked with none are the numbers that `diagnose` lists.
+-- The console gained the numbers whose mismatches with the partial log are at most `within` above the least, ranked,
+-- how many they are, and the least. If the log is whole and all in it was observed, the numbers that are ranked with no
+-- mismatch are those that `diagnose` lists.
 pub record HasRanking (dict log : Text) (within : ℕ) (old new : World) : Type 0 where
   pub dictionary : WasRead old.files dict IsDictionaryFile
   pub lines : WasRead old.files log (IsPartialFor dictionary.thing)
@@ -22,6 +23,6 @@ pub record HasRanking (dict log : Text) (within : ℕ) (old new : World) : Type 
   pub printed : ConsoleGained text old new
   pub as_listed : (observed : List (List Bool)) → IsLogFor dictionary.thing lines.bytes observed → ranked_with 0 ranked.ranks ≡ listed_numbers dictionary.thing observed
 
--- A run of `rank` whose work is done prints that.
+-- If this is a run of `rank` and its work is done, `HasRanking` holds.
 abbrev pub PrintsRanking : Option Request → Ending → World → World → Type 0
 PrintsRanking request ending old new = (dict log : Text) (within : ℕ) → request ≡ Some (rank dict log within) → ending ≡ done → HasRanking dict log within old new

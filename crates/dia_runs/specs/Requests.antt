@@ -11,7 +11,7 @@ use Rattle.result_commands.specs.Plans.{gen_plan, top_up_plan, check_plan, compa
 use Rattle.dictionary_commands.specs.Plans.{dict_plan, convert_plan, diagnose_plan, rank_plan, adapt_plan, follow_plan}
 use Rattle.listing_commands.specs.Plans.{faults_plan, sim_plan, expect_plan, suspects_plan, cover_plan, bridges_plan, expect_at_plan, suspects_at_plan, cover_at_plan, bridges_at_plan}
 
--- the names that a request may create
+-- The names that a run of the request may create.
 abbrev pub outputs_of : Option Request → List Text
 outputs_of None = []
 outputs_of (Some (gen bench result budgets)) = result ∷ []
@@ -36,7 +36,7 @@ outputs_of (Some (suspects_at bench result log most vectors)) = []
 outputs_of (Some (cover_at bench result log vectors)) = []
 outputs_of (Some (bridges_at bench result log most within vectors)) = []
 
--- the plan of each
+-- The plan of the request, or of words that ask for nothing.
 abbrev pub plan_of : Option Request → Plan
 plan_of None = words_plan
 plan_of (Some (gen bench result budgets)) = gen_plan bench result budgets
@@ -61,7 +61,7 @@ plan_of (Some (suspects_at bench result log most vectors)) = suspects_at_plan be
 plan_of (Some (cover_at bench result log vectors)) = cover_at_plan bench result log vectors
 plan_of (Some (bridges_at bench result log most within vectors)) = bridges_at_plan bench result log most within vectors
 
--- how a run may end that is asked this
+-- The endings that a run of the request, or of words that ask for nothing, may have.
 abbrev pub endings_of : Option Request → List Ending
 endings_of None = words_endings
 endings_of (Some (gen bench result budgets)) = netlist_endings
@@ -86,6 +86,6 @@ endings_of (Some (suspects_at bench result log most vectors)) = result_log_endin
 endings_of (Some (cover_at bench result log vectors)) = result_log_endings
 endings_of (Some (bridges_at bench result log most within vectors)) = result_log_endings
 
--- A run did what it was asked.
+-- The run followed the plan of its request, with the endings and outputs of that request.
 abbrev pub Ran : Option Request → Ending → State → State → Type 0
 Ran request ending old new = Follows (plan_of request) (endings_of request) (outputs_of request) ending old new

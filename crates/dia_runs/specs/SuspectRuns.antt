@@ -1,4 +1,4 @@
--- What the runs of `expect`, `suspects`, `cover` and `bridges` whose work is done leave.
+-- What runs of `expect`, `suspects`, `cover` and `bridges` leave if their work is done.
 use Rattle.std.specs.Prelude.{◌≡◌, ℕ, Option, Some}
 use Rattle.std.specs.FinMap.{get}
 use Rattle.diag_shelf.specs.World.{World}
@@ -13,8 +13,8 @@ use Rattle.result_records.specs.Marks.{patterns_in}
 use Rattle.dia_runs.specs.BridgePromises.{ListsNoBridge, WinnersExplainAsStuck}
 use Rattle.dia_runs.specs.Promises.{WasRead, HoldsTrueResult}
 
--- The result is valid and true. Under the log's name is what a chip without a fault answers to the result's patterns, and the console
--- gained its sizes.
+-- The result is valid and true. The file of the log's name has what a chip without a fault answers to the result's
+-- patterns, and the console gained the log's sizes.
 pub record HasExpectedLog (bench result log : Text) (old new : World) : Type 0 where
   pub read : HoldsTrueResult bench result old.files
   pub file : Text
@@ -23,11 +23,11 @@ pub record HasExpectedLog (bench result log : Text) (old new : World) : Type 0 w
   pub made : IsExpectedLog read.design.circuit read.file file text
   pub printed : ConsoleGained text old new
 
--- A run of `expect` whose work is done leaves them.
+-- If this is a run of `expect` and its work is done, `HasExpectedLog` holds.
 abbrev pub WritesExpectedLog : Option Request → Ending → World → World → Type 0
 WritesExpectedLog request ending old new = (bench result log : Text) → request ≡ Some (expect bench result log) → ending ≡ done → HasExpectedLog bench result log old new
 
--- The result is valid and true. The console gained the suspects of the log, the first so many at the most.
+-- The result is valid and true. The console gained the suspects of the log, at most `most` of them.
 pub record HasSuspects (bench result log : Text) (most : ℕ) (old new : World) : Type 0 where
   pub read : HoldsTrueResult bench result old.files
   pub lines : WasRead old.files log (IsLogAt read.design.circuit read.file)
@@ -35,7 +35,7 @@ pub record HasSuspects (bench result log : Text) (most : ℕ) (old new : World) 
   pub listed : IsSuspectsText read.design.circuit read.file lines.thing most text
   pub printed : ConsoleGained text old new
 
--- A run of `suspects` whose work is done prints them.
+-- If this is a run of `suspects` and its work is done, `HasSuspects` holds.
 abbrev pub PrintsSuspects : Option Request → Ending → World → World → Type 0
 PrintsSuspects request ending old new = (bench result log : Text) (most : ℕ) → request ≡ Some (suspects bench result log most) → ending ≡ done → HasSuspects bench result log most old new
 
@@ -47,12 +47,14 @@ pub record HasCover (bench result log : Text) (old new : World) : Type 0 where
   pub covers : IsCoverText read.design.circuit read.file lines.thing text
   pub printed : ConsoleGained text old new
 
--- A run of `cover` whose work is done prints it.
+-- If this is a run of `cover` and its work is done, `HasCover` holds.
 abbrev pub PrintsCover : Option Request → Ending → World → World → Type 0
 PrintsCover request ending old new = (bench result log : Text) → request ≡ Some (cover bench result log) → ending ≡ done → HasCover bench result log old new
 
--- The result is valid and true. The console gained the bridges of the log that explain all of its failing patterns but so many, the first so
--- many of them.
+-- The result is valid and true. The console gained the bridges without a loop that explain some failing pattern of the
+-- log, and all except at most `within`, best first, at most `most` of them. If no pattern fails none is listed. A
+-- dominant bridge without a loop whose first line shows one bit at every logged pattern explains what the stem of its
+-- second line does, stuck at this bit.
 pub record HasBridges (bench result log : Text) (most within : ℕ) (old new : World) : Type 0 where
   pub read : HoldsTrueResult bench result old.files
   pub lines : WasRead old.files log (IsLogAt read.design.circuit read.file)
@@ -62,6 +64,6 @@ pub record HasBridges (bench result log : Text) (most within : ℕ) (old new : W
   pub winners : WinnersExplainAsStuck read.design.circuit (patterns_in listed.of.records) listed.are.table lines.thing
   pub printed : ConsoleGained text old new
 
--- A run of `bridges` whose work is done prints them.
+-- If this is a run of `bridges` and its work is done, `HasBridges` holds.
 abbrev pub PrintsBridges : Option Request → Ending → World → World → Type 0
 PrintsBridges request ending old new = (bench result log : Text) (most within : ℕ) → request ≡ Some (bridges bench result log most within) → ending ≡ done → HasBridges bench result log most within old new

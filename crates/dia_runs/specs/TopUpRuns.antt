@@ -1,4 +1,4 @@
--- What the runs of `grade` and `topup` whose work is done leave.
+-- What runs of `grade` and `topup` leave if their work is done.
 use Rattle.std.specs.Prelude.{◌≡◌, ◌≤◌, ◌^◌, length, Option, Some}
 use Rattle.std.specs.FinMap.{get}
 use Rattle.diag_shelf.specs.World.{World}
@@ -15,8 +15,9 @@ use Rattle.run_steps.specs.Outcome.{ConsoleGained}
 use Rattle.result_commands.specs.Texts.{kept_text}
 use Rattle.dia_runs.specs.Promises.{WasRead}
 
--- Under the result's name is a file that may be made from the list for the netlist's circuit: it is valid and true, and its first patterns are
--- the vectors of the list that split a class of those kept before. The console gained what it amounts to and how many were kept.
+-- The file of the result's name is one that may be made from the list for the netlist's circuit: it is valid and true,
+-- and its first patterns are the vectors of the list that split a class of those kept before. The console gained what
+-- it amounts to and how many vectors were kept.
 pub record HasTopUp (bench vectors result : Text) (budgets : Budgets) (old new : World) : Type 0 where
   pub netlist : WasRead old.files bench IsDesign
   pub list : WasRead old.files vectors (IsListFor netlist.thing.circuit)
@@ -24,12 +25,13 @@ pub record HasTopUp (bench vectors result : Text) (budgets : Budgets) (old new :
   pub saved : get new.files result ≡ Some file
   pub summary : Summary
   pub made : IsMadeFrom netlist.thing.circuit list.thing budgets summary file
-  -- Numbers of one class answer alike to the whole list, what was found isn't in it, and without budgets the classes are the list's.
+  -- Numbers of one class answer alike to the whole list, no pattern that was found is in it, and without budgets the
+  -- classes are those of the list.
   pub graded : IsGraded netlist.thing.circuit list.thing budgets made.is_true.stated made.later
-  -- With as many cubes as there are vectors none is open.
+  -- If there are at least as many cubes as vectors no member is left open.
   pub closed : 2 ^ netlist.thing.circuit.sources ≤ budgets.cubes → summary.spent ≡ 0
   pub printed : ConsoleGained (kept_text summary (length made.kept) (length list.thing)) old new
 
--- A run of `grade` or `topup` whose work is done leaves that.
+-- If this is a run of `grade` or `topup` and its work is done, `HasTopUp` holds.
 abbrev pub TopsUpResult : Option Request → Ending → World → World → Type 0
 TopsUpResult request ending old new = (bench vectors result : Text) (budgets : Budgets) → request ≡ Some (top_up bench vectors result budgets) → ending ≡ done → HasTopUp bench vectors result budgets old new

@@ -1,4 +1,5 @@
-//! The top call.
+//! The top call, which calls the command that the words ask for. `specs/Requests.antt` has the plan, the endings and
+//! the outputs of each request, `specs/Run.antt` all that is promised of a run, field by field.
 
 ghost use Rattle.std.specs.Prelude.{◌≡◌, map, string_bytes, Some};
 ghost use Rattle.request_words.specs.Asked.{asked, HasLimits};
@@ -39,32 +40,52 @@ use run_steps::{RunFault, one_ending_each, refuse_words, status_of};
 use std::alloc::Global;
 use synth_netlist::{each_number_is_accepted, no_number_is_refused};
 
-/// Does what the words ask for, and answers the status of how that ended: `status_of` has the number of each ending.
+/// Does what `words` ask for over `shelf`, and returns the status of how that ended: `status_of` has the status of each
+/// ending.
+///
+/// Returns 2 exactly if the words ask for nothing, unless it returns 8 or 9; then no file was created or changed, and
+/// the console gained a text that says so. Returns 3, 4, 5, 6 or 10 exactly if a netlist, a result, a dictionary, a log
+/// or list of vectors, or an adaptive plan that it reads is the first file to be refused, unless it returns 7, 8 or 9;
+/// then no file was created or changed, and the console gained the text of the refusal. Returns 7 only if the count of
+/// read faults rose; then no file was created or changed, and nothing was printed. Returns 8 only if the count of write
+/// faults rose, and 9 if memory is missing; then nothing was done, or a part of what words and files call for: whole
+/// files, the last perhaps cut, or of a result a beginning of right lines, and a beginning of the text, none before all
+/// files are there. If the words or a file are refused, no file was created or changed; if a read failed, nothing was
+/// done; and files that aren't outputs of the words are as before.
+///
+/// If the words ask for something, each file that is read is accepted and no count rose, it returns 0 or 9. If the
+/// count of read faults is greater than before it returns 7 or 9; if that of write faults is, 8 or 9. Unless it returns
+/// 7, 8 or 9, the file that was read last is read to its end, or to one byte past the limit of its kind. On a sure
+/// shelf that holds each file that is read, up to the first that is refused, no count rises. What is said of files and
+/// of the console, and which file is refused, holds on a shelf that tells them.
 pub fn run<S: Shelf>(alloc: Global, words: &[String], shelf: &mut S) -> u8
-    // All of this run: first what `gen` and `check` leave, then the other commands, the ending and its causes, refusals.
+    // All of this run: first what `gen` and `check` leave, then what the other commands leave, the ending and its
+    // causes, and refusals.
     ensures run { let request = request_of (map string_bytes words.now) in
         (ending : Ending) × (result ≡ status_of ending) × IsRunOf request ending (S.state shelf.old) (S.state shelf.new) }
 
     // The status tells the ending.
     ensures one_each { OneEndingEach }
 
-    // Whatever is asked, no file that is read is both refused and accepted, or refused with two texts.
+    // For every request, no file that is read is both refused and accepted, accepted as two things, or refused with two
+    // texts.
     ensures once { FilesAreJudgedOnce }
 
-    // Files are refused as too long beyond the numbers of bytes that `limit_of` has.
+    // The limits of the readers are the numbers of `limit_of`: a file with more bytes is refused as too long.
     ensures limits { HaveLimits }
 
-    // The netlist of each number is accepted as a design of the number's statements, and so never refused.
+    // The netlist of each number up to 2,000 is accepted as a design of the number's statements, and so it is never
+    // refused.
     ensures accepted { EachNumberIsAccepted }
     ensures numbers { NoNumberIsRefused }
 
-    // A dictionary and its version 2 are diagnosed alike.
+    // A dictionary and its version 2, within the limit of bytes, are diagnosed alike.
     ensures alike { DiagnosesAlike }
 
     // Without budgets of cubes and conflicts one list of vectors makes one result.
     ensures one_result { OneFileOfList }
 
-    // With a result's own patterns as the list that was applied all is told as without a list.
+    // With a result's own patterns as the list that was applied, the same is printed and made as without a list.
     ensures own_patterns { ResultsSaySame }
 {
     same_root_equal();
@@ -90,7 +111,7 @@ pub fn run<S: Shelf>(alloc: Global, words: &[String], shelf: &mut S) -> u8
     status_of(dispatch(alloc, words, shelf))
 }
 
-// No file is both refused and accepted, nor refused with two texts.
+// No file is both refused and accepted, accepted as two things, or refused with two texts.
 fn files_are_judged_once()
     ensures { FilesAreJudgedOnce }
 {
@@ -110,7 +131,7 @@ fn files_are_judged_once()
     list_is_read_once();
 }
 
-// Has the words read, and the command called that they ask for.
+// Reads the words, and calls the command that they ask for.
 fn dispatch<S: Shelf>(alloc: Global, words: &[String], shelf: &mut S) -> Result<(), RunFault>
     ensures { Ran (request_of (map string_bytes words.now)) result (S.state shelf.old) (S.state shelf.new) }
 {

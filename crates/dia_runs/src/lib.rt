@@ -1,4 +1,4 @@
-//! The runs of the program: what the words of the command line ask for is done, over any shelf.
+//! The runs of the program: `run` does what the words of the command line ask for, over any shelf.
 #![tactic(auto)]
 
 mod commands;

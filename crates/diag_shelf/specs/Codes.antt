@@ -1,4 +1,4 @@
--- What tells the views of shelves in memory apart: their fields, as nested pairs.
+-- What distinguishes the views of shelves in memory: their fields, as nested pairs.
 use Rattle.std.specs.Prelude.{ℕ, List, Option, refl}
 use Rattle.std.specs.Coded.{Coded, code_by, coded×, coded_ℕ, coded_list, coded_option}
 use Rattle.std.specs.FinMap as map

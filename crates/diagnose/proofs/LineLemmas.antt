@@ -9,7 +9,7 @@ use Rattle.text_fields.specs.Fields.{Text}
 use Rattle.diagnose.specs.Lines.{text_limit, LineForm, lines_from, RestRule, LinesRefused, too_long, at_line}
 use Rattle.text_fields.proofs.Cuts.{not_empty}
 
--- a row more
+-- one more row
 pub lines_more : (line : LineForm) (n : ℕ) (rows : List (List Bool)) (row : List Bool) (place : ℕ) (rest : Text) → place ≡ n + length rows
     → lines_from line n (rows ++ row ∷ []) ++ rest ≡ lines_from line n rows ++ (line place row ++ 10 ∷ rest)
 lines_more line n [] row place rest is = append_assoc (line n row) (10 ∷ []) rest ∙ ap (λ (k : ℕ). line k row ++ 10 ∷ rest) (omega (arith, is))
@@ -19,7 +19,7 @@ lines_more line n (x ∷ rows) row place rest is =
     ∙ sym (append_assoc (line n x) (10 ∷ lines_from line (n + 1) rows) (line place row ++ 10 ∷ rest)))
 
 module _ (line : LineForm) (width : ℕ) where
-  -- Where one list of rows ends, the other goes on with a row.
+  -- One list of rows ends, and the other has a row more there.
   pub record GoesOn (n : ℕ) (rows others : List (List Bool)) (rest : Text) : Type 0 where
     pub longer : length rows < length others
     pub row : List Bool
@@ -29,7 +29,7 @@ module _ (line : LineForm) (width : ℕ) where
     pub place_is : place ≡ n + length rows
     pub begins : rest ≡ line place row ++ 10 ∷ more
 
-  -- A line tells its row.
+  -- A line determines its row.
   abbrev pub TellsRow : Type 0
   TellsRow = (n : ℕ) (row other : List Bool) (rest more : Text) → line n row ++ 10 ∷ rest ≡ line n other ++ 10 ∷ more → (row ≡ other) × (rest ≡ more)
 
@@ -89,7 +89,7 @@ module _ (line : LineForm) (width : ℕ) where
       ]
 
   module _ (tells : TellsRow) (Rest : RestRule) where
-    -- No right line is refused where another refusal stands behind it.
+    -- No right line is refused if another refusal comes after it.
     abbrev pub KeepsRight : Type 0
     KeepsRight = (n m : ℕ) (row : List Bool) (more rest : Text) (kind other : LogKind) → n < m → length row ≡ width → Rest n (line n row ++ 10 ∷ more) kind → Rest m rest other → ⊥
 
@@ -125,7 +125,7 @@ module _ (line : LineForm) (width : ℕ) where
         let both = at_lines once keeps rows others rest other_rest kind other begins.wide begins'.wide (sym begins.text_is ∙ begins'.text_is) refused refused' in
         (both.0, l ∙ both.1 ∙ sym l')
 
-    -- a refused text isn't the lines of rows at whose end nothing is refused, nor one of whose lines
+    -- a refused text isn't the lines of rows if nothing is refused at their end and none of their lines is
     pub refused_wrong : (text : Text) (kind : LogKind) (number : ℕ) (rows : List (List Bool)) → LinesRefused line width Rest text kind number → length text ≤ text_limit → AreWide width rows → text ≡ lines_from line 0 rows
         → (Rest (length rows) [] kind → ⊥) → ((n : ℕ) (row : List Bool) (more : Text) → n < length rows → length row ≡ width → Rest n (line n row ++ 10 ∷ more) kind → ⊥) → ⊥
     refused_wrong text kind number rows (too_long long k l) short wide is last each = omega (arith, long, short)

@@ -21,7 +21,7 @@ use Rattle.dict_rows.proofs.EntryLemmas.{same_bits-Decides, length-differences}
 
 -- ---- equal rows
 
--- what a test of two rows has told
+-- rows that pass the test are equal
 pub told_same : (a b : List Bool) → true ≡ same_bits a b → a ≡ b
 told_same a b e = (same_bits-Decides a b).0 (sym e)
 
@@ -38,7 +38,7 @@ one_row [] e = absurd (omega (arith, e))
 one_row (x ∷ []) e = refl
 one_row (x ∷ y ∷ more) e = absurd (omega (arith, e))
 
--- the only row of a list, where each bit is what a test answers, and the entry has the same bits
+-- the only row of a list is the entry if its bits are results of a test and those of the entry are the same
 pub entry_tested : {answers : ℕ → Bool → Type 0} {count : ℕ} {zeros bits : List (List Bool)} (entry : List Bool) → zeros ≡ replicate 1 (replicate count false) → IsRowTested answers zeros bits 0 (length (row_at zeros 0)) → length entry ≡ count
     → ((at : ℕ) (bit : Bool) → at < count → answers at bit → bit ≡ get_or entry at false) → bits ≡ entry ∷ []
 entry_tested {answers} {count} {zeros} {bits} entry is set long told =
@@ -103,7 +103,7 @@ module _ (d : Dict) (observed : List (List Bool)) (grouped : IsGrouped d.numbers
         (λ e. (same_bits-Decides (entry_of d n) entry).1 (ap (λ (g : ℕ). get_or d.entries g []) e ∙ is)),
       ))
 
-  -- no number is listed where no row is the entry
+  -- no number is listed if no row is the entry
   pub listed_none : ((group : ℕ) → group < length d.entries → get_or d.entries group [] ≡ entry → ⊥) → [] ≡ listed_numbers d observed
   unfolding listed_numbers
   listed_none never =

@@ -1,4 +1,4 @@
--- Lines of logs, and what is refused behind some.
+-- Lines of logs, and what is refused after some.
 use Rattle.std.proofs.Common.{◌≡◌, ◌≢◌, ◌∙◌, ℕ, ◌+◌, ◌<◌, ◌≤◌, ◌^◌, Bool, eqb, List, [], ◌∷◌, ◌++◌, length, set, take, refl, sym, ap, subst, append_assoc, arith}
 use Rattle.std.specs.Prelude.{Contains, decimal}
 use Rattle.std.proofs.lemmas.Fmt.{decimal_injective}
@@ -24,7 +24,7 @@ line_without_feed pattern bits small =
     (All-append (λ b. 10 < b) (decimal pattern) (32 ∷ bits_text bits) (All-weaker (λ b. 32 < b) (λ b. 10 < b) weaker (decimal pattern) (number_bytes pattern small))
     (All-cons (λ b. 10 < b) 32 (bits_text bits) (omega arith) (All-weaker (λ b. 32 < b) (λ b. 10 < b) weaker (bits_text bits) (bits_bytes bits))))
 
--- a line tells its number and its bits
+-- a line determines its number and its bits
 pub fields_once : (m n : ℕ) (xs ys : List Bool) → m < 2 ^ 32 → n < 2 ^ 32 → log_line m xs ≡ log_line n ys → (m ≡ n) × (xs ≡ ys)
 fields_once m n xs ys low high e =
     let cut = cut_once 32 (decimal m) (decimal n) (bits_text xs) (bits_text ys) (number_without_blank m low) (number_without_blank n high) e in
@@ -43,7 +43,7 @@ tells_row width n row other rest more e =
     let cut = cut_once 10 (bits_text row) (bits_text other) rest more (bits_without_feed row) (bits_without_feed other) (tails behind).1 in
     (bits_once row other cut.0, cut.1)
 
--- a text that begins with a line isn't empty, and begins with one
+-- a text that begins with a line isn't empty
 line_stands : {text : Text} → FirstLogLine text → text ≡ [] → ⊥
 line_stands line none = not_empty (log_line line.pattern line.bits) line.more 10 (sym line.begins.1 ∙ none)
 
@@ -51,7 +51,7 @@ one_first : {text : Text} (line other : FirstLogLine text) → line.pattern ≡ 
 one_first line other = (line_once line.pattern other.pattern line.bits other.bits line.more other.more line.begins.0 other.begins.0 (sym line.begins.1 ∙ other.begins.1)).0
 
 module _ (patterns positions : ℕ) (small : patterns < 2 ^ 32) where
-  -- it is the one that is known
+  -- the line that a text begins with is the one that is known
   same_line : (n : ℕ) (bits : List Bool) (more : Text) → n < patterns → (line : FirstLogLine (log_line n bits ++ 10 ∷ more)) → (n ≡ line.pattern) × (bits ≡ line.bits)
   same_line n bits more below line =
       let same = line_once n line.pattern bits line.bits more line.more (omega (arith, below, small)) line.begins.0 line.begins.1 in
@@ -141,7 +141,7 @@ log_read_once patterns positions text rows others first second =
 
 -- ---- a log that is read so far
 
--- The rows before a place are those of the lines before what is left.
+-- The rows before `place` are those of the lines before `rest`.
 pub record IsLogSoFar (patterns positions : ℕ) (text : Text) (place : ℕ) (observed : List (List Bool)) (rest : Text) : Type 0 where
   pub rows : AreRows patterns positions observed
   pub text_is : text ≡ lines_from log_line 0 (take place observed) ++ rest
@@ -184,7 +184,7 @@ log_refused_at patterns positions text place observed rest kind so_far same shor
     subst (λ (k : ℕ). TesterLogRefused patterns positions text kind (k + 1)) same
     (log_refused patterns positions text place observed rest kind so_far (omega (arith, same)) short (subst (λ (k : ℕ). LogRestRefused patterns positions k rest kind) (sym same) refused))
 
--- ---- what stands behind some lines, as the reader finds it
+-- ---- what is after some lines, as the reader finds it
 
 module _ (patterns positions before : ℕ) (rest : Text) where
   pub refuse_order : (pattern : ℕ) (digits more : Text) → BeginsWithLine rest pattern (digit_bits digits) more → before < patterns → (pattern ≡ before → ⊥) → LogRestRefused patterns positions before rest Order
@@ -199,16 +199,16 @@ module _ (patterns positions before : ℕ) (rest : Text) where
 
 -- ---- a line and its fields
 
--- where a text has no LF, it begins with no line
+-- a text without an LF begins with no line
 pub no_feed : (text : Text) → ¬ Contains text 10 → HasNoLine text
 no_feed text none pattern bits more begins = none (subst (λ (t : Text). Contains t 10) (sym begins.1) (Contains-append_right (log_line pattern bits) (10 ∷ more) 10 (0, omega arith, refl)))
 
--- where the first line has no fields, the text begins with no line
+-- if the first line has no fields, the text begins with no line
 pub no_fields : (text line more : Text) → IsCutAt 10 text line more → ((pattern : ℕ) (bits : List Bool) → pattern < 2 ^ 32 → log_line pattern bits ≢ line) → HasNoLine text
 no_fields text line more cut none pattern bits behind begins =
     none pattern bits begins.0 (sym (cut_once 10 line (log_line pattern bits) more behind cut.first (line_without_feed pattern bits begins.0) (sym cut.text_is ∙ begins.1)).0)
 
--- where a line has no blank, or no number before it, or no bits behind it, no fields spell it
+-- if a line has no blank, or no number before it, or no bits after it, no fields spell it
 pub no_blank : (line : Text) → ¬ Contains line 32 → (pattern : ℕ) (bits : List Bool) → pattern < 2 ^ 32 → log_line pattern bits ≢ line
 no_blank line none pattern bits small e = none (subst (λ (t : Text). Contains t 32) e (Contains-append_right (decimal pattern) (32 ∷ bits_text bits) 32 (0, omega arith, refl)))
 

@@ -1,4 +1,4 @@
--- Lines of vectors, and what is refused behind some.
+-- Lines of vectors, and what is refused after some.
 use Rattle.std.proofs.Common.{◌≡◌, ◌≢◌, ◌∙◌, ℕ, ◌+◌, ◌<◌, ◌≤◌, Bool, eqb, List, [], ◌∷◌, ◌++◌, length, refl, sym, ap, subst, arith}
 use Rattle.std.specs.Prelude.{Contains}
 use Rattle.std.proofs.lemmas.List.{append-nil, length-append, length-map}
@@ -62,7 +62,7 @@ module _ (sources : ℕ) where
 
 -- ---- a list that is read so far
 
--- The vectors are those of the lines before what is left, of which the next one has this number.
+-- The vectors are those of the lines before `rest`, whose first line has this number.
 pub record IsListSoFar (sources : ℕ) (text : Text) (number : ℕ) (vectors : List (List Bool)) (rest : Text) : Type 0 where
   pub wide : AreWide sources vectors
   pub text_is : text ≡ lines_from listed_vector 0 vectors ++ rest

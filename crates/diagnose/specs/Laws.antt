@@ -17,11 +17,14 @@ OneTesterLogRefusal = (patterns positions : ℕ) (text : Text) (kind other : Log
 abbrev pub OneLogReading : Type 0
 OneLogReading = (patterns positions : ℕ) (text : Text) (rows others : List (List Bool)) → IsLog patterns positions text rows → IsLog patterns positions text others → rows ≡ others
 
+-- a refused list isn't the list of any vectors
 abbrev pub RefusedListIsWrong : Type 0
 RefusedListIsWrong = (sources : ℕ) (text : Text) (vectors : List (List Bool)) (kind : LogKind) (line : ℕ) → VectorsRefused sources text kind line → ¬ IsVectorList sources text vectors
 
+-- a list is refused by one rule at one line
 abbrev pub OneListRefusal : Type 0
 OneListRefusal = (sources : ℕ) (text : Text) (kind other : LogKind) (line number : ℕ) → VectorsRefused sources text kind line → VectorsRefused sources text other number → (kind ≡ other) × (line ≡ number)
 
+-- a text is the list of one list of vectors
 abbrev pub OneListReading : Type 0
 OneListReading = (sources : ℕ) (text : Text) (vectors others : List (List Bool)) → IsVectorList sources text vectors → IsVectorList sources text others → vectors ≡ others

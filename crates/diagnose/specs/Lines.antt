@@ -8,7 +8,7 @@ use Rattle.diagnose.specs.declared.fault.LogFault.{LogFault}
 use Rattle.diagnose.specs.declared.fault.LogFault.TheVariants.{At, NoMemory}
 use Rattle.diagnose.specs.declared.lines.TheConstants.{TEXT_LIMIT}
 
--- the most bytes of a log, a list of vectors or a plan
+-- the most bytes of a tester's log, of a list of vectors or of a plan
 abbrev pub text_limit : ℕ
 text_limit = TEXT_LIMIT
 
@@ -16,33 +16,33 @@ text_limit = TEXT_LIMIT
 abbrev pub line_number : Text → ℕ → ℕ
 line_number text byte = count_by (λ b. b == 10) (take byte text) + 1
 
--- How a line with a row of bits is spelled, by its number from 0 and its bits.
+-- How a line with a row of bits is spelled, by its number, counted from 0, and its bits.
 abbrev pub LineForm : Type 0
 LineForm = ℕ → List Bool → Text
 
--- the lines of rows, numbered from n on, each with its LF
+-- the lines of rows, numbered starting at `n`, each with its LF
 abbrev pub lines_from : LineForm → ℕ → List (List Bool) → Text
 lines_from line n [] = []
 lines_from line n (row ∷ rows) = line n row ++ 10 ∷ lines_from line (n + 1) rows
 
--- The text begins with the lines of rows of this width, and the rest stands behind them.
+-- The text is the lines of these rows, each of this width, followed by `rest`.
 pub record BeginsWithRows (line : LineForm) (width : ℕ) (text : Text) (rows : List (List Bool)) (rest : Text) : Type 0 where
   pub wide : AreWide width rows
   pub text_is : text ≡ lines_from line 0 rows ++ rest
 
--- Why what stands behind so many right lines is refused.
+-- Why the rest of a text is refused after the given number of right lines.
 abbrev pub RestRule : Type 1
 RestRule = ℕ → Text → LogKind → Type 0
 
 -- A text of lines is refused by this rule at this line.
 pub data LinesRefused (line : LineForm) (width : ℕ) (Rest : RestRule) (text : Text) (kind : LogKind) (number : ℕ) : Type 0 where
-  -- It is too long: the line is that at which it goes beyond the limit.
+  -- It is too long: the line is that of the first byte beyond the limit.
   too_long : text_limit < length text → kind ≡ TooLong → number ≡ line_number text text_limit → LinesRefused line width Rest text kind number
-  -- What stands behind some right lines is refused: the line is the next one.
+  -- What is after some right lines is refused: the line is the next one.
   at_line : (rows : List (List Bool)) (rest : Text) → length text ≤ text_limit → BeginsWithRows line width text rows rest → Rest (length rows) rest kind → number ≡ length rows + 1
       → LinesRefused line width Rest text kind number
 
--- A fault tells the rule and the line of a refusal, or want of memory.
+-- A fault has the rule and the line of a refusal, or says that memory is missing.
 abbrev pub TellsLogFault : (LogKind → ℕ → Type 0) → LogFault → Type 0
 TellsLogFault Refused (At kind line) = Refused kind line
 TellsLogFault Refused NoMemory = ⊤

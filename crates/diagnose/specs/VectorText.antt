@@ -11,7 +11,7 @@ use Rattle.diagnose.specs.Lines.{text_limit, lines_from, LinesRefused}
 abbrev pub listed_vector : ℕ → List Bool → Text
 listed_vector number bits = bits_text bits
 
--- The text is the list of these vectors, each with a bit for each source.
+-- The text is the list of these vectors, each with a bit for each source, and isn't longer than the limit.
 pub record IsVectorList (sources : ℕ) (text : Text) (vectors : List (List Bool)) : Type 0 where
   pub short : length text ≤ text_limit
   pub wide : AreWide sources vectors
@@ -21,29 +21,29 @@ pub record IsVectorList (sources : ℕ) (text : Text) (vectors : List (List Bool
 abbrev pub HasNoVector : Text → Type 0
 HasNoVector text = (bits : List Bool) (more : Text) → text ≢ bits_text bits ++ 10 ∷ more
 
--- The line of bits with which a text begins.
+-- The line of bits that a text begins with.
 pub record FirstVectorLine (text : Text) : Type 0 where
   pub bits : List Bool
   pub more : Text
   pub begins : text ≡ bits_text bits ++ 10 ∷ more
 
--- Something stands there, and it begins with no line of bits.
+-- The text isn't empty, and begins with no line of bits.
 pub record IsUnreadableVector (text : Text) : Type 0 where
   pub some : text ≢ []
   pub none : HasNoVector text
 
--- What stands behind some right lines is refused so.
+-- What is after some right lines is refused by this rule.
 pub data VectorRestRefused (sources before : ℕ) (rest : Text) (kind : LogKind) : Type 0 where
   -- It begins with no line of bits.
   no_vector : IsUnreadableVector rest → kind ≡ Syntax → VectorRestRefused sources before rest kind
-  -- It begins with too few bits, or too many.
+  -- It begins with a line of too few or too many bits.
   wrong_width : (line : FirstVectorLine rest) → length line.bits ≢ sources → kind ≡ Width → VectorRestRefused sources before rest kind
 
 -- The list is refused by this rule at this line.
 abbrev pub VectorsRefused : ℕ → Text → LogKind → ℕ → Type 0
 VectorsRefused sources = LinesRefused listed_vector sources (VectorRestRefused sources)
 
--- The text begins with a line of digits of the right width.
+-- The text begins with a line of as many digits as there are sources, and continues with `rest`.
 pub record IsRightVector (sources : ℕ) (text digits rest : Text) : Type 0 where
   pub begins : text ≡ bits_text (digit_bits digits) ++ 10 ∷ rest
   pub width : length digits ≡ sources

@@ -9,19 +9,19 @@ use thiserror::Error;
 /// Which rule a line breaks.
 #[derive(Clone, Copy, Debug, PartialEq, Eq)]
 pub enum LogKind {
-    /// The line hasn't the form of its kind of text, or has no LF.
+    /// The line doesn't have the form of its kind of text, or has no LF.
     Syntax,
-    /// The number isn't that of the next pattern, or all patterns have had their line.
+    /// The number isn't that of a pattern that may come next, or all patterns have had their line.
     Order,
     /// The line has another number of bits.
     Width,
     /// The log ends before the last pattern.
     Missing,
-    /// The line goes beyond the limit of bytes.
+    /// The line has the first byte beyond the limit.
     TooLong,
 }
 
-/// Want of memory, or the rule that is broken and the number of the line, counted from 1.
+/// Memory is missing, or a line breaks a rule: which rule, and the number of the line, counted from 1.
 #[derive(Debug, Drop, Error)]
 pub enum LogFault {
     #[error("out of memory")]

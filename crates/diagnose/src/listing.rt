@@ -11,7 +11,8 @@ use dict_rows::{Dict, DictKind, write_row};
 use net_model::AnswerRows;
 use std::alloc::{AllocError, Global};
 
-/// The fault numbers, ascending, whose entry is that of the observed answers, a row for each pattern.
+/// Returns, ascending, the fault numbers whose entry is that of the observed answers. `observed` has a row for each
+/// pattern, with a bit for each position.
 pub fn matches(alloc: Global, dict: &Dict, observed: &AnswerRows) -> Result<Vec<u32>, AllocError>
     requires grouped { IsGroupedDict dict.now }
     requires shaped { IsShaped dict.now }
@@ -25,7 +26,7 @@ pub fn matches(alloc: Global, dict: &Dict, observed: &AnswerRows) -> Result<Vec<
     }
 }
 
-// The one row that the observed answers would have as an entry.
+// Returns, as the only row, the entry that the observed answers would have.
 fn entry_of(alloc: Global, dict: &Dict, observed: &AnswerRows) -> Result<AnswerRows, AllocError>
     requires shaped { IsShaped dict.now }
     requires observed { AreRows dict.now.patterns dict.now.positions observed.now }
@@ -42,7 +43,7 @@ fn entry_of(alloc: Global, dict: &Dict, observed: &AnswerRows) -> Result<AnswerR
     }
 }
 
-// One row with a bit for each row of observed answers: whether it isn't the baseline.
+// Returns one row with a bit for each row of `observed`: whether it differs from the row of `baselines`.
 fn differing(
     alloc: Global,
     observed: &AnswerRows,
@@ -57,7 +58,7 @@ fn differing(
     Ok(bits)
 }
 
-// Whether a row is a row of other rows.
+// Returns whether row `row` of `rows` is equal to row `other` of `others`.
 fn is_same(rows: &AnswerRows, row: usize, others: &AnswerRows, other: usize) -> bool
     requires row { row < length rows.now }
     requires other { other < length others.now }
@@ -67,7 +68,7 @@ fn is_same(rows: &AnswerRows, row: usize, others: &AnswerRows, other: usize) -> 
     rows.row_words(row) == others.row_words(other)
 }
 
-// One row with the bits of all rows, one after another.
+// Returns one row with the bits of all rows, one after another.
 fn joined(
     alloc: Global,
     observed: &AnswerRows,
@@ -83,7 +84,7 @@ fn joined(
     Ok(bits)
 }
 
-// The row that is equal to the one row of another list.
+// Returns the row of `rows` that is equal to the only row of `one`, or none if no row is.
 fn find_row(rows: &AnswerRows, one: &AnswerRows) -> Option<usize>
     requires one { length one.now ≡ 1 }
     requires wide { All (λ row. length row ≡ length (slice_index_or one.now 0 [])) rows.now }
@@ -98,7 +99,7 @@ fn find_row(rows: &AnswerRows, one: &AnswerRows) -> Option<usize>
     None
 }
 
-// The numbers of which each is in this group, ascending.
+// Returns, ascending, the numbers in group `group`.
 fn numbers_in(
     alloc: Global,
     groups: &[u32],
@@ -116,7 +117,7 @@ fn numbers_in(
     Ok(listed)
 }
 
-// Appends a number where it is to be kept.
+// Appends the number if it is kept.
 fn keep(listed: &mut Vec<u32>, number: u32, kept: bool) -> Result<(), AllocError>
     ensures { OnOk result (listed.new.items ≡ (if kept then listed.old.items ++ number ∷ [] else listed.old.items)) }
 {

@@ -13,7 +13,7 @@ use net_model::AnswerRows;
 use std::alloc::Global;
 use text_fields::{cut, digits_of, number_of_bytes};
 
-// A line of a log and what stands behind it.
+// A line of a log, and what is after it.
 #[derive(Clone, Copy)]
 struct LogLine<'a> {
     pattern: u32,
@@ -21,9 +21,9 @@ struct LogLine<'a> {
     rest: &'a [u8],
 }
 
-/// The observed answers that a tester's log tells, a row for each pattern of the dictionary.
-///
-/// A log has at most `TEXT_LIMIT` bytes. A fault tells the first line that breaks a rule.
+/// Returns the observed answers of a tester's log, a row for each pattern of the dictionary with a bit for each
+/// position. Memory aside, returns `At` with a kind and a line exactly if the text isn't a log for these patterns and
+/// positions: it is longer than `TEXT_LIMIT` bytes, or this is its first line that breaks a rule.
 pub fn read_log(alloc: Global, dict: &Dict, bytes: &[u8]) -> Result<AnswerRows, LogFault>
     ensures read { IfOk result (λ observed. IsLog dict.now.patterns dict.now.positions bytes.now observed) }
     ensures refused { IfErr result (TellsLogFault (TesterLogRefused dict.now.patterns dict.now.positions bytes.now)) }
@@ -58,7 +58,7 @@ fn read_lines(
     }
 }
 
-// The line of this pattern, which is one of so many.
+// Returns the line of `pattern`, one of `patterns`, with which `rest` begins, or the rule that is broken there.
 fn right_line<'a>(
     positions: u32,
     pattern: u32,
@@ -83,7 +83,7 @@ fn right_line<'a>(
     Ok(line)
 }
 
-// Refuses what stands behind the lines of all patterns.
+// Refuses anything after the lines of all patterns.
 fn check_end(rest: &[u8]) -> Result<(), LogKind>
     ensures { (patterns positions : ℕ) → MatchResult result (λ _. rest.now ≡ []) (LogRestRefused patterns positions patterns rest.now) }
 {
@@ -96,7 +96,7 @@ fn check_end(rest: &[u8]) -> Result<(), LogKind>
     }
 }
 
-// The line that a text begins with.
+// Returns the line that a text begins with, or none if it begins with no line of a log.
 fn first_line(text: &[u8]) -> Option<LogLine<'_>>
     ensures { MatchOption result (HasNoLine text.now) (λ line. BeginsWithLine text.now line.pattern (digit_bits line.digits.now) line.rest.now) }
 {
@@ -109,7 +109,7 @@ fn first_line(text: &[u8]) -> Option<LogLine<'_>>
     })
 }
 
-// The pattern and the digits that a line spells.
+// Returns the pattern and the digits that a line spells.
 fn fields_of(line: &[u8]) -> Option<(u32, &[u8])>
     ensures { MatchOption result ((pattern : ℕ) (bits : List Bool) → pattern < 2 ^ 32 → log_line pattern bits ≢ line.now) (λ fields. (fields.0 < 2 ^ 32) × (log_line fields.0 (digit_bits fields.1.now) ≡ line.now)) }
 {
@@ -119,7 +119,6 @@ fn fields_of(line: &[u8]) -> Option<(u32, &[u8])>
     Some((pattern, digits))
 }
 
-// Writes the bits of digits into a row.
 fn write_digits(observed: &mut AnswerRows, row: usize, digits: &[u8])
     requires row { row < length observed.old }
     requires width { length (slice_index_or observed.old row []) ≡ length digits.now }

@@ -12,9 +12,9 @@ use net_model::Vectors;
 use std::alloc::Global;
 use text_fields::{bits_of, cut, digits_of};
 
-/// The vectors that a list has, a line of bits for each, with a bit for each source.
-///
-/// A list has at most `TEXT_LIMIT` bytes. A fault tells the first line that breaks a rule.
+/// Returns the vectors of a list, which has a line of bits for each vector, with a bit for each source. Memory aside,
+/// returns `At` with a kind and a line exactly if the text isn't such a list: it is longer than `TEXT_LIMIT` bytes, or
+/// this is its first line that breaks a rule. The kind is `Syntax`, `Width` or `TooLong`.
 pub fn read_vectors(alloc: Global, sources: u32, bytes: &[u8]) -> Result<Vectors, LogFault>
     ensures read { IfOk result (λ vectors. IsVectorList sources bytes.now vectors) }
     ensures refused { IfErr result (TellsLogFault (VectorsRefused sources bytes.now)) }
@@ -44,7 +44,7 @@ fn read_lines(alloc: Global, sources: u32, bytes: &[u8]) -> Result<Vectors, LogF
     Ok(vectors)
 }
 
-// The digits of the first line, and what stands behind it.
+// Returns the digits of the first line and what is after it, or the rule that the line breaks.
 fn right_vector(sources: u32, rest: &[u8]) -> Result<(&[u8], &[u8]), LogKind>
     requires { rest.now ≢ [] }
     ensures { MatchResult result (λ line. IsRightVector sources rest.now line.0.now line.1.now) (λ kind. (before : ℕ) → VectorRestRefused sources before rest.now kind) }
@@ -58,7 +58,7 @@ fn right_vector(sources: u32, rest: &[u8]) -> Result<(&[u8], &[u8]), LogKind>
     Ok((digits, after))
 }
 
-// The digits of the line that a text begins with, and what stands behind it.
+// Returns the digits of the line that a text begins with, and what is after it.
 fn first_vector(text: &[u8]) -> Option<(&[u8], &[u8])>
     ensures { MatchOption result (HasNoVector text.now) (λ line. text.now ≡ bits_text (digit_bits line.0.now) ++ 10 ∷ line.1.now) }
 {

@@ -1,4 +1,4 @@
-//! DIATEST: tests that tell single stuck-at faults apart.
+//! DIATEST, a generator of test patterns that distinguish single stuck-at faults.
 #![tactic(auto)]
 
 use dia_runs::run;
@@ -10,7 +10,8 @@ use std::io::ErrorKind;
 use std::process::ExitCode;
 use std::rt::Env;
 
-// The words behind the program's name. Where they can't be had for another cause than memory, there are none.
+// Returns the words after the program's name. If they can't be read for a reason other than missing memory, there are
+// none.
 fn words<R: Env + AllocGlobal>(rt: &R) -> Result<Vec<String>, AllocError> {
     let mut words = Vec::new(rt.alloc());
     match env::args(rt) {
@@ -25,6 +26,7 @@ fn words<R: Env + AllocGlobal>(rt: &R) -> Result<Vec<String>, AllocError> {
     }
 }
 
+/// Exits with the status of `run`, or with 9 if memory is missing for the words.
 fn main(rt: HostRuntime) -> ExitCode {
     let Ok(words) = words(&rt) else {
         return ExitCode::from(status_of(Err(RunFault::NoMemory)));

@@ -76,7 +76,7 @@ byte_bit bits from i h =
     let e : 8 - 1 - (7 - i) ≡ i = omega (arith, h) in
     value_bit 8 (drop from bits) (7 - i) (omega (arith, h)) ∙ (ap (λ j. bit_at (drop from bits) j) e ∙ get_or-drop from bits i false)
 
--- a byte that has the bits
+-- A byte that has the bits.
 pub byte_by_bits : (bits : List Bool) (from byte : ℕ) → byte < 256 → ((i : ℕ) → i < 8 → bit_of byte (7 - i) ≡ bit_at bits (from + i)) → byte ≡ byte_of bits from
 byte_by_bits bits from byte fits are =
     same_number 8 byte (byte_of bits from) fits (byte_fits bits from)
@@ -93,7 +93,7 @@ length-packed row = length-map-range_with_len (λ k. byte_of row (8 * k)) 0 (byt
 pub get_or-packed : (row : List Bool) (k : ℕ) → k < byte_count (length row) → get_or (packed_row row) k 0 ≡ byte_of row (8 * k)
 get_or-packed row k h = get_or-map-range_with_len (λ k. byte_of row (8 * k)) 0 (byte_count (length row)) k k 0 h (omega arith)
 
--- The bits of a row stand in bytes from a place on, and zeros up to a whole byte.
+-- The bits of a row are in bytes starting at a place, and zeros follow up to a whole byte.
 pub record IsRowAt (bytes : List ℕ) (from : ℕ) (row : List Bool) : Type 0 where
   pub inside : from + byte_count (length row) ≤ length bytes
   pub bits : (at : ℕ) → at < 8 * byte_count (length row) → file_bit bytes from at ≡ bit_at row at

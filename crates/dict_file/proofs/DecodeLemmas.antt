@@ -29,7 +29,7 @@ fields_with bytes v head baselines groups entries is same = record {
   numbers_are = sym is.numbers_are;
 }
 
--- entries are as wide as the rows of which they are the groups
+-- Entries are as wide as the rows from which the groups were made.
 wide_entries : (rows : List (List Bool)) (groups : List ℕ) (entries : List (List Bool)) (width : ℕ) → AreGroupsOf rows groups entries → AreWide width rows → AreWide width entries
 wide_entries rows groups entries width are wide = λ g d h.
     let at = (are.grouped.used g).1 h in

@@ -1,4 +1,4 @@
--- Rows and head fields that stand in bytes, against what is read of them.
+-- Rows and head fields in bytes, against what is read of them.
 use Rattle.std.proofs.Common.{◌≡◌, ◌∙◌, ℕ, ◌+◌, ◌*◌, ◌<◌, ◌≤◌, ◌^◌, ◌⊎◌, Bool, cond, eqb, List, [], ◌∷◌, ◌++◌, length, get_or, refl, sym, ap, subst, arith, inl, inr, lit<}
 use Rattle.std.specs.Prelude.{codes}
 use Rattle.std.proofs.lemmas.List.FromFn.{length-map-range_with_len, get_or-map-range_with_len, fill_by_all}
@@ -73,7 +73,7 @@ pub record AreFields (bytes : List ℕ) (v : DictVersion) (d : Dict) : Type 0 wh
   pub patterns_are : reading.patterns bytes ≡ d.patterns
   pub numbers_are : reading.numbers bytes ≡ d.numbers
 
--- what stands behind each field of the head
+-- What comes after each field of the head.
 abbrev pub behind_patterns : Dict → List ℕ
 behind_patterns d = big_bytes 4 d.numbers
 
@@ -112,7 +112,7 @@ fields_stand bytes v d fits right are =
     (at_both (big_bytes 4 d.positions) (behind_positions d) positions
     (at_both (big_bytes 4 d.patterns) (behind_patterns d) patterns numbers))))
 
--- The head of a dictionary stands at the beginning of bytes: they have its fields, and their first 19 are right.
+-- The head of a dictionary is at the beginning of bytes: they have its fields, and their first 19 are right.
 pub record HasHead (bytes : List ℕ) (v : DictVersion) (d : Dict) : Type 0 where
   pub fields : AreFields bytes v d
   pub right : (head_part bytes).Right

@@ -31,7 +31,7 @@ groups_none bytes = record {
 pub before_more : (bytes : List ℕ) (n : ℕ) → groups_before bytes (n + 1) ≡ groups_before bytes n ++ group_at bytes n ∷ []
 before_more bytes n = map-range_with_len_more (group_at bytes) 0 n n (omega arith)
 
--- the group that may come next
+-- The group that may come next.
 pub next_is : {bytes : List ℕ} {number used : ℕ} {read : List ℕ} → AreGroupsTo bytes number used read → group_at bytes number ≤ used → group_at bytes number < reading.groups bytes → IsGroupNumber bytes number
 next_is {bytes} {number} {used} {read} are within known = record {
   next = elim (cases_lt (group_at bytes number) used) [
@@ -84,7 +84,7 @@ groups_more {bytes} {number} {used} {read} group are is within low known =
       few = omega (arith, are.few, known);
     }
 
--- all groups are used where as many are as there are
+-- All groups are used if as many are used as there are.
 pub all_used : {bytes : List ℕ} {used : ℕ} {read : List ℕ} → AreGroupsTo bytes (reading.numbers bytes) used read → reading.groups bytes ≤ used → AreUsed bytes
 all_used are all g h = (are.used_are g).1 (omega (arith, h, all))
 

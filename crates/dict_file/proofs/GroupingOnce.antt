@@ -1,4 +1,4 @@
--- A dictionary's groups are determined by the entries of its numbers.
+-- The groups of a dictionary are determined by the entries of its numbers.
 use Rattle.std.proofs.Common.{◌≡◌, ◌∙◌, ℕ, zero, suc, ◌<◌, ◌≤◌, Bool, List, [], length, get_or, take, sym, ap, subst, arith, inl, inr, Contains, ◌↔◌}
 use Rattle.std.proofs.lemmas.Bool.{cases_lt}
 use Rattle.std.proofs.lemmas.List.{ext_get_or, get_or-take, length-take-le, get_or_default}
@@ -13,7 +13,7 @@ place_out xs n x k h low e =
 
 module _ (numbers : ℕ) (gs hs : List ℕ) (es fs : List (List Bool)) (one : IsGrouped numbers gs es) (two : IsGrouped numbers hs fs)
     (same : (n : ℕ) → n < numbers → group_row gs es n ≡ group_row hs fs n) where
-  -- numbers of one group are of one group in the other grouping
+  -- Numbers of one group are of one group in the other grouping.
   known : (n : ℕ) → n < numbers → get_or hs n 0 < length fs
   known n h = (two.used (get_or hs n 0)).0 (Contains-get_or hs n 0 (omega (arith, h, two.one_each)))
 
@@ -21,13 +21,13 @@ module _ (numbers : ℕ) (gs hs : List ℕ) (es fs : List (List Bool)) (one : Is
   joined m n hm hn e =
       two.different.apart (get_or hs m 0) (get_or hs n 0) (known m hm) (known n hn) (sym (same m hm) ∙ (ap (λ g. get_or es g []) e ∙ same n hn))
 
-  -- a group that came before is the same one, if those before are the same
+  -- A group that came before is the same in both if those before it are.
   old_same : (n : ℕ) → n < numbers → ((m : ℕ) → m < n → get_or gs m 0 ≡ get_or hs m 0) → Contains (take n gs) (get_or gs n 0) → get_or gs n 0 ≡ get_or hs n 0
   old_same n h before has =
       let at = place_in gs n (get_or gs n 0) (omega (arith, h, one.one_each)) has in
       sym at.2 ∙ (before at.0 at.1 ∙ joined at.0 n (omega (arith, at.1, h)) h at.2)
 
--- the least unused number of the same numbers is the same
+-- The least unused number of the same numbers is the same.
 moved : (gs hs : List ℕ) (n x : ℕ) → n ≤ length gs → n ≤ length hs → ((m : ℕ) → m < n → get_or gs m 0 ≡ get_or hs m 0) → Contains (take n gs) x → Contains (take n hs) x
 moved gs hs n x hg hh before has =
     let at = place_in gs n x hg has in
@@ -43,7 +43,7 @@ least_once gs hs n hg hh before x y one two =
       ]
     ]
 
--- the first lists have the same groups up to a number
+-- The first lists have the same groups up to a number.
 same_groups : (numbers : ℕ) (gs hs : List ℕ) (es fs : List (List Bool)) → IsGrouped numbers gs es → IsGrouped numbers hs fs → ((n : ℕ) → n < numbers → group_row gs es n ≡ group_row hs fs n)
     → (n : ℕ) → n ≤ numbers → (m : ℕ) → m < n → get_or gs m 0 ≡ get_or hs m 0
 same_groups numbers gs hs es fs one two same zero h m l = absurd (omega (arith, l))
@@ -64,7 +64,7 @@ same_groups numbers gs hs es fs one two same (suc n) h m l =
           ])
     ]
 
--- groups that are used are counted once
+-- Used groups are counted once.
 same_counts : (gs : List ℕ) (es fs : List (List Bool)) → ((g : ℕ) → Contains gs g ↔ (g < length es)) → ((g : ℕ) → Contains gs g ↔ (g < length fs)) → length es ≡ length fs
 same_counts gs es fs one two =
     elim (cases_lt (length es) (length fs)) [

@@ -9,7 +9,7 @@ use Rattle.dict_rows.proofs.RowLemmas.{same_shape, shape_later}
 use Rattle.dict_file.specs.Packing.{file_bit, row_in}
 use Rattle.dict_file.specs.Words.{IsWordAt}
 
--- The new rows have the bits of a file in the first words of a row, so many, and the other rows as before.
+-- The new rows have the bits of a file in the first `words` words of a row, and the other rows as before.
 pub record IsRowLoading (old new : List (List Bool)) (row words : ℕ) (bytes : List ℕ) (start : ℕ) : Type 0 where
   pub shape : HaveSameShape old new
   pub begun : (at : ℕ) → at < length (row_at old row) → at / 64 < words → row_bit new row at ≡ file_bit bytes start at

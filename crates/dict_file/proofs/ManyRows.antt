@@ -1,4 +1,4 @@
--- Rows of one width that stand in bytes one after another, and numbers of four bytes.
+-- Rows of one width that are in bytes one after another, and numbers of four bytes.
 use Rattle.std.proofs.Common.{◌≡◌, ◌∙◌, ℕ, zero, suc, ◌+◌, ◌*◌, ◌<◌, ◌≤◌, ◌^◌, Bool, false, List, [], ◌∷◌, length, get_or, take, drop, sym, ap, subst, arith, inl, inr}
 use Rattle.std.specs.Prelude.{flat_map}
 use Rattle.std.specs.Int.{w16, w32, from_be_bytes}
@@ -93,7 +93,7 @@ padding_at bytes from width row is long at over h =
 pub length-big : (n x : ℕ) → length (big_bytes n x) ≡ n
 length-big n x = length-bytes_high_first n x
 
--- bytes of a number read as it
+-- The bytes of a number are read as the number.
 pub number_stands : (bytes : List ℕ) (from n x : ℕ) → x < 256 ^ n → IsAt bytes from (big_bytes n x) → big_number n (drop from bytes) ≡ x
 number_stands bytes from n x small is =
     let cut : take n (drop from bytes) ≡ big_bytes n x = ap (λ k. take k (drop from bytes)) (sym (length-big n x)) ∙ at_cut (big_bytes n x) is in
@@ -106,7 +106,7 @@ four_number bs = omega arith
 two_number : (bs : List ℕ) → big_from 0 2 bs ≡ from_be_bytes w16 bs
 two_number bs = omega arith
 
--- a number that is read has the bytes that stood there
+-- A number that is read has the bytes that are there.
 module _ (bytes : List ℕ) (from : ℕ) (fits : (i : ℕ) → get_or bytes i 0 < 256) where
   cut_fits : (n i : ℕ) → get_or (take n (drop from bytes)) i 0 < 256
   cut_fits n i = elim (cases_lt i n) [

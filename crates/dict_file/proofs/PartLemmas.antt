@@ -69,7 +69,7 @@ module _ (bytes : List ℕ) where
   end_is : (end : ℕ) → IsExclusive (end_part bytes end)
   end_is end = wants_is (length bytes ≤ end) (Trailing end)
 
-  -- what is left of the parts from one on
+  -- What is left of the parts, starting at one.
   abbrev from_some : Part
   from_some = wants (0 < numbers bytes) (Value 15)
 

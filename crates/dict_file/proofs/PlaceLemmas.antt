@@ -1,4 +1,4 @@
--- Where rows of a file are, and which of them are whole, right and new.
+-- Where rows of a file are, and which of them are complete, right and new.
 use Rattle.std.proofs.Common.{◌≡◌, ◌∙◌, ℕ, ◌+◌, ◌-◌, ◌*◌, ◌/◌, ◌^◌, ◌<◌, ◌≤◌, cond, eqb, List, [], length, get_or, take, min, replicate, refl, sym, ap, subst, arith, inl, inr, false}
 use Rattle.std.proofs.lemmas.Bool.{cases_lt, cases_Bool}
 use Rattle.std.proofs.lemmas.List.{get_or-take, length-take-le, take_all, length-replicate, get_or-replicate}
@@ -188,7 +188,7 @@ repeat_refused {bytes} {rows} {right} row place are is at =
       inr (are.each_is row inside, (not_new bytes rows right row is, ap Value at)),
     )
 
--- why a row is refused
+-- Why a row is refused.
 pub cut_row : (bytes : List ℕ) (rows : RowsAt) (k : ℕ) → length bytes < row_start rows k + byte_count rows.width → (row_part bytes rows k).Refused (Short (length bytes))
 cut_row bytes rows k short = inl ((λ h. omega (arith, h, short)), refl)
 
@@ -198,7 +198,7 @@ padded_row bytes rows k place whole wrong at = inr (whole, ((λ zeros. wrong (wh
 
 -- ---- rows that were read
 
--- all rows were found right, and were read
+-- All rows were found right, and were read.
 pub all_read : {bytes : List ℕ} {part : RowsAt → ℕ → Part} {rows : RowsAt} {right : ℕ} (read : ReadRows) → AreRightRows bytes rows right → rows.count ≤ right → (each rows.count (part rows)).Right → read.rows ≡ first_rows bytes rows right → read.end ≡ row_start rows right
     → AreRead bytes part rows read
 all_read {bytes} {part} {rows} {right} read are all found rows_are end_is =
@@ -213,7 +213,7 @@ all_read {bytes} {part} {rows} {right} read are all found rows_are end_is =
 pub length-read : {bytes : List ℕ} {part : RowsAt → ℕ → Part} {rows : RowsAt} {read : ReadRows} → AreRead bytes part rows read → length read.rows ≡ rows.count
 length-read {bytes} {part} {rows} {read} are = ap length are.rows_are ∙ length-rows_of bytes rows rows.count
 
--- places that are equal
+-- Equal places.
 pub entries_moved : (bytes : List ℕ) {rows : RowsAt} {from count at number : ℕ} → rows ≡ entries_at bytes from count → from ≡ at → count ≡ number → rows ≡ entries_at bytes at number
 entries_moved bytes {rows} {from} {count} {at} {number} same from_is count_is = same ∙ (ap (λ n. entries_at bytes n count) from_is ∙ ap (entries_at bytes at) count_is)
 

@@ -48,7 +48,7 @@ reversed_low (suc k) n a i h = elim (cases_lt i k) [
 
 -- ---- eight bytes as a word
 
--- byte j from the top of the bytes of a number
+-- Byte `j` from the top of the bytes of a number.
 byte_from_top : (n m : ℕ) → m < 8 → get_or (to_be_bytes w64 n) m 0 ≡ n / 2 ^ (8 * (7 - m)) % 2 ^ 8
 byte_from_top n zero h = refl
 byte_from_top n (suc zero) h = refl
@@ -121,7 +121,7 @@ bit_is_zero b e = ap (λ n. eqb n 1) e
 bit_is_one : (b : ℕ) → b ≡ 1 → eqb b 1 ≡ true
 bit_is_one b e = ap (λ n. eqb n 1) e
 
--- the zeros at the end of a byte
+-- The zeros at the end of a byte.
 pub low_zeros : (byte count : ℕ) → byte < 256 → count < 8 → count ≤ trailing_zeros w8 byte → (at : ℕ) → at < count → bit_of byte at ≡ false
 low_zeros byte count fits few over at h = elim (cases_lt 0 byte) [
   | inl some ↦ bit_is_zero (bit_at byte at) ((bit_at-trailing_zeros w8 byte some fits).2 at (omega (arith, h, over)))
@@ -144,7 +144,7 @@ low_one byte count fits few under zeros = elim (cases_lt 0 byte) [
       omega (arith, eight, under, few)
 ]
 
--- the padding of a row is in its last byte
+-- The padding of a row is in its last byte.
 pub padding_of_byte : (bytes : List ℕ) (start width : ℕ) → 0 < byte_count width → ((at : ℕ) → at < 8 * byte_count width - width → bit_of (get_or bytes (start + byte_count width - 1) 0) at ≡ false) → HasZeroPadding bytes start width
 padding_of_byte bytes start width some zeros at over h =
     let last : at / 8 ≡ byte_count width - 1 = omega (arith, over, h, fits_tight width) in
@@ -159,7 +159,7 @@ byte_of_padding bytes start width some zeros at h =
     let place : start + byte_count width - 1 ≡ start + from / 8 = omega (arith, last, some) in
     ap (λ k. bit_of (get_or bytes k 0) at) place ∙ (ap (λ j. bit_of (get_or bytes (start + from / 8) 0) j) (sym turned) ∙ zeros from (omega (arith, h)) (omega (arith, h, some)))
 
--- the test of a row's last byte says whether the padding is zeros
+-- The test of a row's last byte says whether the padding is zeros.
 pub padding_told : (bytes : List ℕ) (start width last padding : ℕ) (low : Bool) → last ≡ start + byte_count width - 1 → padding ≡ 8 * byte_count width - width → (padding ≡ 0 → ⊥)
     → (low ≡ false) ↔ ((at : ℕ) → at < padding → bit_of (get_or bytes last 0) at ≡ false) → (low ≡ false) ↔ HasZeroPadding bytes start width
 padding_told bytes start width last padding low last_is padding_is some told =

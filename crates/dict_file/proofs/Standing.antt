@@ -1,4 +1,4 @@
--- Bytes that stand in others from a place on.
+-- Bytes that are in others, starting at a place.
 use Rattle.std.proofs.Common.{◌≡◌, ◌∙◌, ℕ, ◌+◌, ◌-◌, ◌<◌, ◌≤◌, List, [], ◌++◌, length, get_or, take, drop, refl, sym, ap, arith, inl, inr}
 use Rattle.std.proofs.lemmas.Bool.{cases_lt}
 use Rattle.std.proofs.lemmas.List.{length-append, get_or_append_left, get_or-append_right, get_or-append-add, ext_get_or, get_or-take, get_or-drop, length-take-le, length-drop}
@@ -42,7 +42,7 @@ at_whole bytes part is short =
     ext_get_or 0 bytes part (omega (arith, is.inside, short))
     (λ k h. let e : 0 + k ≡ k = omega arith in ap (λ i. get_or bytes i 0) (sym e) ∙ is.same k (omega (arith, h, is.inside, short)))
 
--- the same bytes, cut out
+-- The same bytes, cut out.
 pub at_cut : {bytes : List ℕ} {from : ℕ} (part : List ℕ) → IsAt bytes from part → take (length part) (drop from bytes) ≡ part
 at_cut {bytes} {from} part is =
     let long : length (take (length part) (drop from bytes)) ≡ length part = length-take-le (length part) (drop from bytes) (omega (arith, length-drop from bytes, is.inside)) in

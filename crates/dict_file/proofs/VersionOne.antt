@@ -1,4 +1,4 @@
--- Files of version 1: a spelled dictionary is read as it is, and what is read is spelled so.
+-- Files of version 1: a spelled dictionary is read as it is, and what is read is spelled in the same way.
 use Rattle.std.proofs.Common.{◌≡◌, ◌∙◌, ℕ, ◌+◌, ◌<◌, ◌≤◌, Bool, List, [], ◌++◌, length, get_or, sym, ap, subst, arith}
 use Rattle.std.proofs.lemmas.List.{length-append}
 use Rattle.std.proofs.lemmas.List.Elements.{Contains-get_or}
@@ -19,7 +19,7 @@ use Rattle.dict_file.proofs.FieldLemmas.{AreBytes, AreRowsOf, rows_read, rows_wr
 
 -- ---- the entries of a grouped dictionary
 
--- the group of a number has an entry row
+-- The group of a number has an entry row.
 pub group_known : (d : Dict) → IsGroupedDict d → (n : ℕ) → n < d.numbers → get_or d.groups n 0 < length d.entries
 group_known d is n h = (is.used (get_or d.groups n 0)).0 (Contains-get_or d.groups n 0 (omega (arith, h, is.one_each)))
 
@@ -43,7 +43,7 @@ pub record ReadsOne (bytes : List ℕ) (d : Dict) : Type 0 where
   pub entries : AreRowsOf bytes (entries_one bytes) (entry_rows d)
   pub ends : length bytes ≤ rows_end (entries_one bytes)
 
--- baselines of a shaped dictionary
+-- Baselines of a shaped dictionary.
 pub baselines_read : {bytes : List ℕ} {v : DictVersion} {d : Dict} (from : ℕ) → AreFields bytes v d → IsShaped d → IsAt bytes from (packed_rows d.baselines) → AreRowsOf bytes (baseline_rows_at bytes from) d.baselines
 baselines_read {bytes} {v} {d} from fields shaped is =
     rows_read bytes (baseline_rows_at bytes from) d.baselines
@@ -99,7 +99,7 @@ spelling_of {bytes} {v} {from} {d} is = record {
   some_number = subst (λ n. 0 < n) is.fields.numbers_are is.head.1.1.1.1.1.1;
 }
 
--- the baselines stand
+-- The bytes have the baselines where they are read.
 pub baselines_stand : {bytes : List ℕ} {v : DictVersion} {d : Dict} (from : ℕ) → AreBytes bytes → IsReadAs bytes v from d → from ≤ length bytes
     → ((k : ℕ) → k < reading.read_baseline_count bytes → (row_part bytes (baseline_rows_at bytes from) k).Right) → IsAt bytes from (packed_rows d.baselines)
 baselines_stand {bytes} {v} {d} from fits is within right =

@@ -1,4 +1,4 @@
--- Files of version 2: a spelled dictionary is read as it is, and what is read is spelled so.
+-- Files of version 2: a spelled dictionary is read as it is, and what is read is spelled in the same way.
 use Rattle.std.proofs.Common.{◌≡◌, ◌∙◌, ℕ, ◌+◌, ◌*◌, ◌<◌, ◌≤◌, ◌⊎◌, Bool, List, [], ◌++◌, length, get_or, take, sym, ap, subst, arith, inl, inr, Contains}
 use Rattle.std.specs.Prelude.{flat_map}
 use Rattle.std.proofs.lemmas.Bool.{cases_lt}
@@ -47,7 +47,7 @@ pub record ReadsTwo (bytes : List ℕ) (d : Dict) : Type 0 where
   pub entries : AreRowsOf bytes (entries_two bytes) d.entries
   pub ends : length bytes ≤ rows_end (entries_two bytes)
 
--- what stands behind each part of the body
+-- What comes after each part of the body.
 abbrev pub behind_groups : Dict → List ℕ
 behind_groups d = packed_rows d.entries
 
@@ -116,7 +116,7 @@ module _ {bytes : List ℕ} {d : Dict} (has : HasDictSpelling d) (reads : ReadsT
       let numbers = reads.head.fields.numbers_are in
       sym (take_all (reading.numbers bytes) d.groups (omega (arith, numbers, has.grouped.one_each))) ∙ before_are (reading.numbers bytes) (omega (arith, numbers))
 
-  -- rows without bits are equal
+  -- Rows without bits are equal.
   one_without_bits : reading.read_entry_width bytes ≡ 0 → length d.entries ≤ 1
   one_without_bits none = elim (cases_lt 1 (length d.entries)) [
     | inr few ↦ few

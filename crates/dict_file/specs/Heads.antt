@@ -13,6 +13,7 @@ use Rattle.dict_file.specs.Reading.{head_part}
 abbrev pub IsVersionAt : List ℕ → DictVersion → Type 0
 IsVersionAt bytes version = version_number version ≡ reading.version bytes
 
+-- The kind is that of the bytes.
 abbrev pub IsKindAt : List ℕ → DictKind → Type 0
 IsKindAt bytes kind = kind_number kind ≡ reading.kind bytes
 
@@ -31,6 +32,6 @@ pub record Begins (bytes : List ℕ) (version : DictVersion) (head : FileHead) :
   pub version_is : head.version ≡ version
   pub short : length bytes ≤ DICTIONARY_LIMIT
 
--- the dictionary with the fields of a head
+-- The dictionary with the fields of a head, and these baselines, groups and entries.
 abbrev pub dict_with : FileHead → List (List Bool) → List ℕ → List (List Bool) → Dict
 dict_with head baselines groups entries = record { kind = head.kind; positions = head.positions; patterns = head.patterns; numbers = head.numbers; baselines = baselines; groups = groups; entries = entries }

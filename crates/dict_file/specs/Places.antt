@@ -18,18 +18,18 @@ pub record IsPlaced (bytes : List ℕ) (rows : RowsAt) : Type 0 where
   pub narrow : rows.width < 2 ^ 60
   pub few : rows.count < 2 ^ 32
 
--- the first rows, so many
+-- The first `count` rows.
 abbrev pub first_rows : List ℕ → RowsAt → ℕ → List (List Bool)
 first_rows bytes rows count = map (row_of bytes rows) (range_with_len 0 count)
 
--- So many rows are right, and the next one isn't, if there is one.
+-- The first `right` rows are right, and the next one isn't, if there is one.
 pub record AreRightRows (bytes : List ℕ) (rows : RowsAt) (right : ℕ) : Type 0 where
   pub within : right ≤ rows.count
   pub inside : row_start rows right ≤ length bytes
   pub each_is : (k : ℕ) → k < right → (row_part bytes rows k).Right
   pub next : right < rows.count → (row_part bytes rows right).Right → ⊥
 
--- So many rows are whole, and the next one isn't, if there is one.
+-- The first `whole` rows are complete within `len` bytes, and the next one isn't, if there is one.
 pub record AreWholeTo (len : ℕ) (rows : RowsAt) (whole : ℕ) : Type 0 where
   pub within : whole ≤ rows.count
   pub inside : row_start rows whole ≤ len
@@ -42,7 +42,7 @@ pub record AreRead (bytes : List ℕ) (part : RowsAt → ℕ → Part) (rows : R
   pub end_is : read.end ≡ rows_end rows
   pub within : read.end ≤ length bytes
 
--- The fault tells the last byte of the first row that is equal to an earlier one.
+-- The fault gives the last byte of the first row that is equal to an earlier one.
 pub record TellsRepeat (read : List (List Bool)) (rows : RowsAt) (fault : DictFault) : Type 0 where
   pub row : ℕ
   pub repeats : IsFirstRepeat read row

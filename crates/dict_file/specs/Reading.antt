@@ -1,4 +1,5 @@
--- What bytes must be to be a dictionary's file, part by part in the order of the file, and the first fault where they aren't.
+-- What bytes must be to be a dictionary's file, part by part in the order of the file, and the first fault if they
+-- aren't.
 use Rattle.std.specs.Prelude.{◌≡◌, ◌≢◌, ℕ, ◌+◌, ◌-◌, ◌*◌, ◌<◌, ◌≤◌, ◌⊎◌, ◌==◌, Bool, List, length, map, take, drop, codes, slice_index, Contains, if◌then◌else◌}
 use Rattle.std.specs.List.{range_with_len}
 use Rattle.byteorder.specs.Endian.{big_number}
@@ -13,18 +14,19 @@ use Rattle.dict_file.specs.Parts.{Part, wants, reaches, ◌⊳◌, each, when}
 
 -- ---- rows
 
--- where a row of some begins
+-- The place of the first byte of row `k`.
 abbrev pub row_start : RowsAt → ℕ → ℕ
 row_start rows k = rows.from + k * byte_count rows.width
 
+-- The place after the last row.
 abbrev pub rows_end : RowsAt → ℕ
 rows_end rows = row_start rows rows.count
 
--- the bits of a row of some
+-- The bits of row `k`.
 abbrev pub row_of : List ℕ → RowsAt → ℕ → List Bool
 row_of bytes rows k = row_in bytes (row_start rows k) rows.width
 
--- a row, with its padding
+-- A row must be complete, and its padding must be zeros.
 abbrev pub row_part : List ℕ → RowsAt → ℕ → Part
 row_part bytes rows k = reaches bytes (row_start rows k + byte_count rows.width) ⊳ wants (HasZeroPadding bytes (row_start rows k) rows.width) (Value (row_start rows k + byte_count rows.width - 1))
 
@@ -32,14 +34,14 @@ row_part bytes rows k = reaches bytes (row_start rows k + byte_count rows.width)
 abbrev pub IsNewRow : List ℕ → RowsAt → ℕ → Type 0
 IsNewRow bytes rows k = (j : ℕ) → j < k → row_of bytes rows j ≢ row_of bytes rows k
 
--- a row that must not be equal to an earlier one
+-- A row must be right, and must not be equal to an earlier one.
 abbrev pub new_row_part : List ℕ → RowsAt → ℕ → Part
 new_row_part bytes rows k = row_part bytes rows k ⊳ wants (IsNewRow bytes rows k) (Value (row_start rows k + byte_count rows.width - 1))
 
 module _ (bytes : List ℕ) where
   -- ---- fields
 
-  -- the number of four bytes
+  -- The number of four bytes.
   abbrev pub number_at : ℕ → ℕ
   number_at from = big_number 4 (drop from bytes)
 
@@ -58,7 +60,7 @@ module _ (bytes : List ℕ) where
   abbrev pub numbers : ℕ
   numbers = number_at 15
 
-  -- a count at this byte
+  -- The count at this byte must be at most the limit.
   abbrev pub count_part : ℕ → Part
   count_part from = reaches bytes (from + 4) ⊳ wants (number_at from ≤ limit) (Value from)
 
@@ -71,16 +73,17 @@ module _ (bytes : List ℕ) where
   abbrev pub kind_part : Part
   kind_part = reaches bytes 7 ⊳ wants ((kind ≡ 1) ⊎ ((kind ≡ 2) ⊎ (kind ≡ 3))) Kind
 
-  -- the first 19 bytes
+  -- The first 19 bytes must be right.
   abbrev pub head_part : Part
   head_part = magic_part ⊳ version_part ⊳ kind_part ⊳ count_part 7 ⊳ count_part 11 ⊳ count_part 15 ⊳ wants (0 < numbers) (Value 15)
 
   -- ---- where the rows are
 
-  -- how many baselines there are, and how wide an entry is
+  -- The number of baselines.
   abbrev pub read_baseline_count : ℕ
   read_baseline_count = if kind == 2 then 0 else patterns
 
+  -- The number of bits of an entry.
   abbrev pub read_entry_width : ℕ
   read_entry_width = if kind == 2 then patterns * positions else patterns
 
@@ -93,7 +96,7 @@ module _ (bytes : List ℕ) where
   abbrev pub entries_at : ℕ → ℕ → RowsAt
   entries_at from count = record { from = from; count = count; width = read_entry_width }
 
-  -- no byte follows
+  -- No byte may follow.
   abbrev pub end_part : ℕ → Part
   end_part end = wants (length bytes ≤ end) (Trailing end)
 
@@ -107,11 +110,11 @@ module _ (bytes : List ℕ) where
 
   -- ---- version 2
 
-  -- how many groups the file says that there are
+  -- The number of groups that the file states.
   abbrev pub groups : ℕ
   groups = number_at 19
 
-  -- There is a group, no more than numbers, and one alone where an entry has no bits.
+  -- There is at least one group, there are at most as many as numbers, and there is only one if an entry has no bits.
   pub record IsGroupCount : Type 0 where
     pub some : 0 < groups
     pub few : groups ≤ numbers
@@ -123,14 +126,16 @@ module _ (bytes : List ℕ) where
   abbrev pub groups_from : ℕ
   groups_from = rows_end (baseline_rows_at 23)
 
-  -- the group of a number, and those of the numbers before one
+  -- The group of a number.
   abbrev pub group_at : ℕ → ℕ
   group_at number = number_at (groups_from + 4 * number)
 
+  -- The groups of the numbers before one.
   abbrev pub groups_before : ℕ → List ℕ
   groups_before number = map group_at (range_with_len 0 number)
 
-  -- The group of a number stands before, or is the least one not used before; and it is one of those that the file says that there are.
+  -- The group of a number came before, or is the least one not used before, and it is below the stated number of
+  -- groups.
   pub record IsGroupNumber (number : ℕ) : Type 0 where
     pub next : Contains (groups_before number) (group_at number) ⊎ IsLeastUnused (groups_before number) (group_at number)
     pub known : group_at number < groups
@@ -142,7 +147,7 @@ module _ (bytes : List ℕ) where
   abbrev pub AreUsed : Type 0
   AreUsed = (group : ℕ) → group < groups → Contains (groups_before numbers) group
 
-  -- the group numbers, among which is each group
+  -- The group numbers must be right, and each group must be among them.
   abbrev pub groups_part : Part
   groups_part = each numbers group_part ⊳ wants AreUsed (Value (groups_from + 4 * (numbers - 1)))
 
@@ -154,13 +159,14 @@ module _ (bytes : List ℕ) where
 
   -- ---- the file
 
+  -- The parts of a file in their order: not too many bytes, the head, and the parts of its version.
   abbrev pub file_part : Part
   file_part = wants (length bytes ≤ DICTIONARY_LIMIT) (TooLong DICTIONARY_LIMIT) ⊳ head_part ⊳ when (version ≡ 1) part_one ⊳ when (version ≡ 2) part_two
 
-  -- The bytes are refused for this fault, which is the first one.
+  -- The bytes are refused for this fault, which is that of the first part that isn't right.
   pub record IsRefusedBy (fault : DictFault) : Type 0 where
     pub refused : file_part.Refused fault
 
--- A fault tells what is refused, but for want of memory.
+-- The fault is one for which something is refused, unless it is `NoMemory`.
 abbrev pub TellsDictFault : (DictFault → Type 0) → DictFault → Type 0
 TellsDictFault Refused fault = fault ≢ NoMemory → Refused fault

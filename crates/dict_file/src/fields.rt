@@ -1,4 +1,4 @@
-//! Fields of big-endian numbers.
+//! Fields of big-endian numbers of two and four bytes.
 
 ghost use Rattle.std.specs.Prelude.{◌≡◌, ◌+◌, ◌-◌, ◌<◌, ◌≤◌, ◌^◌, ◌++◌, length, drop, IfOk, IfErr, OnOk};
 ghost use Rattle.byteorder.specs.Endian.{big_bytes, big_number};
@@ -12,7 +12,7 @@ use std::alloc::AllocError;
 /// The largest count of positions, patterns or numbers.
 pub(crate) const LIMIT: u32 = 67_108_864;
 
-/// Refuses bytes that end before this place.
+/// Refuses bytes that end before `end`.
 pub(crate) fn reach(bytes: &[u8], end: usize) -> Result<(), DictFault>
     ensures right { OnOk result (reaches bytes.now end).Right }
     ensures refused { IfErr result (reaches bytes.now end).Refused }
@@ -23,7 +23,7 @@ pub(crate) fn reach(bytes: &[u8], end: usize) -> Result<(), DictFault>
     Ok(())
 }
 
-/// The number of the two bytes from this place on.
+/// Returns the number of the two bytes starting at `from`.
 pub(crate) fn short_number(bytes: &[u8], from: usize) -> u16
     requires { from + 2 ≤ length bytes.now }
     ensures { result ≡ big_number 2 (drop from bytes.now) }
@@ -31,7 +31,7 @@ pub(crate) fn short_number(bytes: &[u8], from: usize) -> u16
     BigEndian::read_u16(&bytes[from..])
 }
 
-/// The number of the four bytes from this place on.
+/// Returns the number of the four bytes starting at `from`.
 pub(crate) fn number(bytes: &[u8], from: usize) -> u32
     requires { from + 4 ≤ length bytes.now }
     ensures { result ≡ number_at bytes.now from }
@@ -39,7 +39,7 @@ pub(crate) fn number(bytes: &[u8], from: usize) -> u32
     BigEndian::read_u32(&bytes[from..])
 }
 
-/// A count of at most the limit.
+/// Returns the count at `from`. Refuses bytes that end inside it, and a count above `LIMIT`.
 pub(crate) fn read_count(bytes: &[u8], from: usize) -> Result<u32, DictFault>
     requires { from < 2 ^ 32 }
     ensures value { IfOk result (λ count. count ≡ number_at bytes.now from) }

@@ -15,8 +15,8 @@ use dict_rows::{Grouped, Groups, group_rows};
 use net_model::AnswerRows;
 use std::alloc::{AllocError, Global};
 
-/// The group numbers that stand from a byte on, one for each number: all groups below a count,
-/// and no others.
+/// Returns the group numbers starting at byte `from`, one for each number. Each must be used already or be the next
+/// unused one, and be below `groups`; and each group below `groups` must be used. Otherwise the bytes are refused.
 pub(crate) fn read_groups(
     alloc: Global,
     bytes: &[u8],
@@ -48,7 +48,8 @@ pub(crate) fn read_groups(
     Ok(read)
 }
 
-// The group number that stands at a byte, where so many groups are used so far.
+// Returns the group number at byte `at`. `used` groups are used so far. Refuses bytes that end inside it, and a number
+// above `used` or not below `groups`.
 fn read_group(bytes: &[u8], at: usize, used: u32, groups: u32) -> Result<u32, DictFault>
     requires { at < 2 ^ 60 }
     ensures value { IfOk result (λ group. group ≡ number_at bytes.now at) }
@@ -63,7 +64,7 @@ fn read_group(bytes: &[u8], at: usize, used: u32, groups: u32) -> Result<u32, Di
     Ok(group)
 }
 
-// How many groups are used with this one, which is used already or the next one.
+// Returns the number of used groups after this group, which is used already or is the next one.
 fn used_with(used: u32, group: u32) -> u32
     requires { group < 2 ^ 32 - 1 }
     ensures { result ≡ max used (group + 1) }
@@ -71,7 +72,7 @@ fn used_with(used: u32, group: u32) -> u32
     used.max(group + 1)
 }
 
-/// The groups of equal rows.
+/// Returns the groups of equal rows.
 pub(crate) fn group(alloc: Global, rows: &AnswerRows) -> Result<Grouped, AllocError>
     requires some { 0 < length rows.now }
     requires few { length rows.now < 2 ^ 32 }
@@ -84,7 +85,7 @@ pub(crate) fn group(alloc: Global, rows: &AnswerRows) -> Result<Grouped, AllocEr
     group_rows(alloc, rows)
 }
 
-// One group of so many rows without bits.
+// Returns one group of `rows` rows without bits.
 fn one_group(alloc: Global, rows: usize) -> Result<Grouped, AllocError>
     ensures groups { IfOk result (λ grouped. grouped.groups ≡ replicate rows 0) }
     ensures entries { IfOk result (λ grouped. grouped.entries ≡ [] ∷ []) }

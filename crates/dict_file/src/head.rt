@@ -1,4 +1,4 @@
-//! The fields that both versions have.
+//! The first 19 bytes: the fields that both versions have.
 
 ghost use Rattle.std.specs.Prelude.{◌≡◌, ◌++◌, IfOk, IfErr, OnOk};
 ghost use Rattle.dict_file.specs.Spelling.{head_bytes, version_number, kind_number};
@@ -22,7 +22,7 @@ pub(crate) struct FileHead {
 }
 
 impl FileHead {
-    /// The dictionary that has these fields, baselines and groups.
+    /// Returns the dictionary with these fields, baselines and groups.
     pub(crate) fn with(self, baselines: AnswerRows, grouped: Grouped) -> Dict
         ensures { result ≡ dict_with self baselines grouped.groups grouped.entries }
     {

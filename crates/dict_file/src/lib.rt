@@ -1,4 +1,4 @@
-//! Dictionary files of versions 1 and 2: dictionaries as bytes, and what bytes are refused for.
+//! Dictionary files of versions 1 and 2: dictionaries as bytes, and why bytes are refused.
 #![tactic(auto)]
 
 mod fault;

@@ -1,12 +1,12 @@
-//! Words of bits as packed bytes.
+//! Words of bits as packed bytes, and back.
 
 ghost use Rattle.std.specs.Prelude.{◌≡◌, ◌<◌, ◌+◌, ◌*◌, ◌^◌, ◌/◌, ℕ, Bool, List, slice_index, length};
 ghost use Rattle.net_model.specs.Rows.{IsPacked};
 ghost use Rattle.dict_file.specs.Packing.{byte_of};
 ghost use Rattle.dict_file.specs.Words.{IsWordAt};
 
-/// The 64 bits of packed bytes from a byte on, the first one lowest, and 0 past the end of the
-/// bytes.
+/// Returns the 64 bits of the packed bytes starting at `from`, the first one as the lowest bit, and 0 past the end of
+/// the bytes.
 pub(crate) fn word_at(bytes: &[u8], from: usize) -> u64
     requires { from + 7 < 2 ^ 64 }
     ensures { IsWordAt bytes.now from result }
@@ -14,7 +14,7 @@ pub(crate) fn word_at(bytes: &[u8], from: usize) -> u64
     u64::from_be_bytes(eight_at(bytes, from)).reverse_bits()
 }
 
-// Eight bytes from one on, 0 past the end.
+// Returns the eight bytes starting at `from`, 0 past the end.
 fn eight_at(bytes: &[u8], from: usize) -> [u8; 8]
     requires { from + 7 < 2 ^ 64 }
     ensures count { length result ≡ 8 }
@@ -32,14 +32,14 @@ fn eight_at(bytes: &[u8], from: usize) -> [u8; 8]
     ]
 }
 
-// A byte, 0 past the end.
+// Returns a byte, 0 past the end.
 fn byte_at(bytes: &[u8], at: usize) -> u8
     ensures { result ≡ slice_index bytes.now at }
 {
     bytes.get(at).copied().unwrap_or(0)
 }
 
-/// A byte of a packed row, from the row's words.
+/// Returns a byte of a packed row from the words of the row.
 pub(crate) fn packed_byte(words: &[u64], at: usize) -> u8
     requires { at / 8 < length words.now }
     ensures { (row : List Bool) → IsPacked row words.now → result ≡ byte_of row (8 * at) }

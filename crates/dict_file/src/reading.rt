@@ -17,13 +17,14 @@ use crate::row_bytes::{ReadRows, RowsAt, read_new_rows, read_rows};
 use dict_rows::{Dict, DictKind, Grouped};
 use std::alloc::Global;
 
-/// The most bytes of a dictionary.
+/// The most bytes that a dictionary may have.
 pub const DICTIONARY_LIMIT: u64 = 1_099_511_627_776;
 
-/// The dictionary that bytes are, in version 1 or 2.
+/// Reads bytes as a dictionary, in version 1 or 2.
 ///
-/// Fields and rows are read in the order of the file, and a fault tells the first that is wrong.
-/// More than [`DICTIONARY_LIMIT`] bytes are refused first.
+/// Returns a fault exactly if the bytes are no dictionary's file: `Magic`, `Version`, `Kind`, `Short`, `Value` or
+/// `Trailing` for the first field or row in the order of the file that is wrong. `TooLong` comes first, for more than
+/// [`DICTIONARY_LIMIT`] bytes. Returns `NoMemory` if memory is missing.
 pub fn decode(alloc: Global, bytes: &[u8]) -> Result<Dict, DictFault>
     ensures read { IfOk result (λ dict. IsFileOf dict bytes.now) }
     ensures refused { IfErr result (TellsDictFault (IsRefusedBy bytes.now)) }
@@ -65,7 +66,7 @@ fn decode_two(alloc: Global, bytes: &[u8], head: FileHead) -> Result<Dict, DictF
     Ok(head.with(above.rows, Grouped { groups, entries }))
 }
 
-// How many groups version 2 says that there are.
+// Returns the number of groups that version 2 states.
 fn read_group_count(bytes: &[u8], head: FileHead) -> Result<u32, DictFault>
     requires { IsDictHead bytes.now head }
     ensures value { IfOk result (λ count. count ≡ reading.groups bytes.now) }
@@ -80,7 +81,7 @@ fn read_group_count(bytes: &[u8], head: FileHead) -> Result<u32, DictFault>
     Ok(groups)
 }
 
-// The baselines, from a byte on.
+// Reads the baselines, starting at byte `from`.
 fn baselines(
     alloc: Global,
     bytes: &[u8],
@@ -97,7 +98,7 @@ fn baselines(
     read_rows(alloc, bytes, rows)
 }
 
-// The entries of version 1, one for each number.
+// Reads the entries of version 1, one for each number.
 fn entries(alloc: Global, bytes: &[u8], head: FileHead, from: usize) -> Result<ReadRows, DictFault>
     requires head { IsDictHead bytes.now head }
     requires from { from ≡ rows_end (reading.baseline_rows_at bytes.now 19) }
@@ -110,7 +111,7 @@ fn entries(alloc: Global, bytes: &[u8], head: FileHead, from: usize) -> Result<R
     read_rows(alloc, bytes, rows)
 }
 
-// The entries of version 2, one for each group, so many.
+// Reads the `count` entries of version 2, one for each group.
 fn new_entries(
     alloc: Global,
     bytes: &[u8],
@@ -130,7 +131,7 @@ fn new_entries(
     read_new_rows(alloc, bytes, rows)
 }
 
-// Where the baselines are.
+// Returns the place of the baselines.
 fn baselines_at(head: FileHead, from: usize) -> RowsAt
     ensures { (bytes : List ℕ) → IsDictHead bytes head → result ≡ reading.baseline_rows_at bytes from }
 {
@@ -141,7 +142,7 @@ fn baselines_at(head: FileHead, from: usize) -> RowsAt
     }
 }
 
-// How many baselines there are.
+// Returns the number of baselines.
 fn baseline_count(head: FileHead) -> usize
     ensures { (bytes : List ℕ) → IsDictHead bytes head → result ≡ reading.read_baseline_count bytes }
 {
@@ -151,7 +152,7 @@ fn baseline_count(head: FileHead) -> usize
     }
 }
 
-// Where entry rows are, so many.
+// Returns the place of `count` entry rows.
 fn entries_at(head: FileHead, from: usize, count: u32) -> RowsAt
     ensures { (bytes : List ℕ) → IsDictHead bytes head → result ≡ reading.entries_at bytes from count }
 {
@@ -162,7 +163,7 @@ fn entries_at(head: FileHead, from: usize, count: u32) -> RowsAt
     }
 }
 
-// How many bits an entry has.
+// Returns the number of bits of an entry.
 fn entry_width(head: FileHead) -> usize
     ensures { (bytes : List ℕ) → IsDictHead bytes head → result ≡ reading.read_entry_width bytes }
 {
@@ -172,7 +173,7 @@ fn entry_width(head: FileHead) -> usize
     }
 }
 
-// Refuses bytes behind the last row.
+// Refuses bytes after the last row.
 fn check_end(bytes: &[u8], end: usize) -> Result<(), DictFault>
     ensures right { OnOk result (end_part bytes.now end).Right }
     ensures refused { IfErr result (end_part bytes.now end).Refused }

@@ -1,4 +1,4 @@
-//! Rows of bits that stand in a file.
+//! Rows of bits as bytes of a file and back, by words of 64 bits.
 
 ghost use Rattle.std.specs.Prelude.{◌≡◌, ◌↔◌, ◌<◌, ◌≤◌, ◌+◌, ◌-◌, ◌*◌, ◌^◌, ◌++◌, ℕ, false, length, IfOk, IfErr, OnOk};
 ghost use Rattle.net_model.specs.Rows.{bit_of, row_at};
@@ -16,7 +16,7 @@ use dict_rows::first_repeat;
 use net_model::AnswerRows;
 use std::alloc::{AllocError, Global};
 
-/// Rows of one width, one after another from a byte of a file on, each up to a whole byte.
+/// Rows of one width, one after another starting at byte `from` of a file. Each is filled up to a whole byte.
 #[derive(Clone, Copy)]
 pub(crate) struct RowsAt {
     pub(crate) from: usize,
@@ -24,7 +24,7 @@ pub(crate) struct RowsAt {
     pub(crate) width: usize,
 }
 
-/// Rows that were read, and the byte behind the last one.
+/// Rows that were read, and the place after the last one.
 #[derive(Drop)]
 pub(crate) struct ReadRows {
     pub(crate) rows: AnswerRows,
@@ -32,7 +32,7 @@ pub(crate) struct ReadRows {
 }
 
 impl RowsAt {
-    // How many bytes a row takes.
+    // Returns the number of bytes of a row.
     #[tactic(auto, unfolding(crate::specs::Packing::byte_count))]
     fn size(self) -> usize
         ensures { result ≡ byte_count self.width }
@@ -40,7 +40,7 @@ impl RowsAt {
         self.width.div_ceil(8)
     }
 
-    // The byte where a row begins.
+    // Returns the place of the first byte of a row.
     fn start(self, row: usize) -> usize
         requires { row_start self row < 2 ^ 64 }
         ensures { result ≡ row_start self row }
@@ -48,7 +48,7 @@ impl RowsAt {
         self.from + row * self.size()
     }
 
-    // The last byte of a row.
+    // Returns the place of the last byte of a row.
     fn last(self, row: usize) -> u64
         requires { row_start self row + byte_count self.width < 2 ^ 64 }
         ensures { result ≡ row_start self row + byte_count self.width - 1 }
@@ -56,7 +56,7 @@ impl RowsAt {
         (self.start(row) + self.size()).saturating_sub(1) as u64
     }
 
-    // How many rows from the first one on the bytes reach to the end of.
+    // Returns how many of the first rows end within `len` bytes.
     fn whole(self, len: usize) -> usize
         requires { self.from ≤ len }
         ensures { AreWholeTo len self result }
@@ -68,7 +68,7 @@ impl RowsAt {
         self.count.min((len - self.from) / size)
     }
 
-    // How many rows from the first one on are whole and have a padding of zeros.
+    // Returns how many of the first rows are complete and have a padding of zeros.
     fn right(self, bytes: &[u8]) -> usize
         requires { IsPlaced bytes.now self }
         ensures { AreRightRows bytes.now self result }
@@ -86,7 +86,7 @@ impl RowsAt {
         whole
     }
 
-    // Why this row is refused: the bytes end in it, or a bit of its padding is 1.
+    // Returns why this row is refused: the bytes end in it, or a bit of its padding is 1.
     fn fault(self, bytes: &[u8], row: usize) -> DictFault
         requires placed { IsPlaced bytes.now self }
         requires row { row_start self row ≤ length bytes.now }
@@ -101,7 +101,7 @@ impl RowsAt {
     }
 }
 
-// Whether one of the lowest bits is 1, so many.
+// Returns whether one of the `count` lowest bits is 1.
 fn has_low_bit(byte: u8, count: usize) -> bool
     requires { count < 8 }
     ensures { (result ≡ false) ↔ ((at : ℕ) → at < count → bit_of byte at ≡ false) }
@@ -109,7 +109,7 @@ fn has_low_bit(byte: u8, count: usize) -> bool
     (byte.trailing_zeros() as usize) < count
 }
 
-/// Rows of a file that may repeat.
+/// Reads rows of a file. They may be equal.
 pub(crate) fn read_rows(alloc: Global, bytes: &[u8], rows: RowsAt) -> Result<ReadRows, DictFault>
     requires { IsPlaced bytes.now rows }
     ensures read { IfOk result (AreRead bytes.now (row_part bytes.now) rows) }
@@ -124,7 +124,7 @@ pub(crate) fn read_rows(alloc: Global, bytes: &[u8], rows: RowsAt) -> Result<Rea
     Ok(ReadRows { rows: read, end })
 }
 
-/// Rows of a file of which none is equal to another.
+/// Reads rows of a file. Refuses a row that is equal to an earlier one.
 pub(crate) fn read_new_rows(
     alloc: Global,
     bytes: &[u8],
@@ -144,7 +144,7 @@ pub(crate) fn read_new_rows(
     Ok(ReadRows { rows: read, end })
 }
 
-// Refuses the first of the rows that were read that is equal to an earlier one.
+// Refuses the first of the read rows that is equal to an earlier one.
 fn refuse_repeat(alloc: Global, read: &AnswerRows, rows: RowsAt) -> Result<(), DictFault>
     requires few { length read.now < 2 ^ 32 }
     requires small { (row : ℕ) → row < length read.now → row_start rows row + byte_count rows.width < 2 ^ 64 }
@@ -157,7 +157,7 @@ fn refuse_repeat(alloc: Global, read: &AnswerRows, rows: RowsAt) -> Result<(), D
     }
 }
 
-// The first rows, so many.
+// Returns the first `count` rows.
 fn load_rows(
     alloc: Global,
     bytes: &[u8],
@@ -179,7 +179,7 @@ fn load_rows(
     Ok(loaded)
 }
 
-// Writes the bits of packed bytes from a place on as a row.
+// Writes the bits of the packed bytes starting at `start` into a row.
 fn load_row(loaded: &mut AnswerRows, row: usize, bytes: &[u8], start: usize)
     requires row { row < length loaded.old }
     requires whole { start + byte_count (length (row_at loaded.old row)) ≤ length bytes.now }

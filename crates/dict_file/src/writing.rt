@@ -15,7 +15,7 @@ use dict_rows::Dict;
 use net_model::AnswerRows;
 use std::alloc::{AllocError, Global};
 
-/// The bytes of a dictionary in this version.
+/// Returns the bytes of a dictionary in the version.
 pub fn encode(alloc: Global, dict: &Dict, version: DictVersion) -> Result<Vec<u8>, AllocError>
     requires grouped { IsGroupedDict dict.now }
     requires shaped { IsShaped dict.now }
@@ -27,7 +27,7 @@ pub fn encode(alloc: Global, dict: &Dict, version: DictVersion) -> Result<Vec<u8
     Ok(bytes)
 }
 
-// Appends what stands behind the head.
+// Appends what comes after the head.
 fn push_body(bytes: &mut Vec<u8>, dict: &Dict, version: DictVersion) -> Result<(), AllocError>
     requires { IsGroupedDict dict.now }
     ensures { OnOk result (bytes.new.items ≡ bytes.old.items ++ body_bytes version dict.now) }
@@ -48,7 +48,7 @@ fn push_one(bytes: &mut Vec<u8>, dict: &Dict) -> Result<(), AllocError>
     Ok(())
 }
 
-// Appends the rows at these places.
+// Appends the rows at the given places.
 fn push_picked(bytes: &mut Vec<u8>, rows: &AnswerRows, places: &[u32]) -> Result<(), AllocError>
     requires { All (λ place. place < length rows.now) places.now }
     ensures { OnOk result (bytes.new.items ≡ bytes.old.items ++ packed_rows (map (row_at rows.now) places.now)) }

@@ -30,7 +30,7 @@ words_more {old} {mid} {new} {row} {word} {bits} {whole} so_far one long is = re
 
 -- ---- a row that is tested place by place
 
--- where each bit is what a test answers, these bits are the row
+-- If each bit is what a test returns, these bits are the row.
 pub tested_row : {answers : ℕ → Bool → Type 0} {old new : List (List Bool)} {row : ℕ} (bits : List Bool) → IsRowTested answers old new row (length (row_at old row)) → length (row_at old row) ≡ length bits
     → ((at : ℕ) (bit : Bool) → at < length bits → answers at bit → bit ≡ bit_at bits at) → IsRowSet old new row bits
 tested_row {answers} {old} {new} {row} bits set long is = record {
@@ -63,7 +63,7 @@ bits_more {old} {mid} {new} {row} {bits} {wanted} begin word so_far one is = rec
 
 -- ---- a block of a table
 
--- what is right of a number at a place is right by what is asked there
+-- What was set as right by one test is right by each test that follows from it.
 pub number_as : {right : ℕ → ℕ → ℕ → Bool → Type 0} {count : ℕ} {old new : Answers} {place first positions : ℕ} (over : ℕ → ℕ → ℕ → Bool → Type 0) → ((lane k : ℕ) (bit : Bool) → lane < count → k < positions → right lane place k bit → over lane place k bit)
     → IsNumberSet right count old new place first positions → IsNumberSet over count old new place first positions
 number_as {right} {count} {old} {new} {place} {first} {positions} over asked set = record {
@@ -77,7 +77,7 @@ module _ (a : Inside) (are : AreCells a) (new : List (List Bool)) (number first 
   cells_set : AreCells (record a { cells = new })
   cells_set = rows_later is.shape are
 
-  -- the place of a lane and a position in the number's row
+  -- The place of a lane and a position in the row of the number.
   place_is : (lane k : ℕ) → (first + lane) * a.positions + k ≡ start + (lane * a.positions + k)
   place_is lane k = omega (arith, at)
 

@@ -42,7 +42,7 @@ module _ (t : Answers) where
   pub answer_at : (pattern number : ℕ) → pattern < length t.rows → row_at (answers_of t.rows number) pattern ≡ answer_to t pattern number
   answer_at pattern number h = get_or-map (λ row. answer_in row number) t.rows pattern [] [] h
 
-  -- the answers of a number are rows of the table's width
+  -- The answers of a number are rows of the table's width.
   pub answers_are : IsTable t → (number : ℕ) → number < t.numbers → AreRows (length t.rows) t.positions (answers_of t.rows number)
   answers_are is number hn = record {
     count_is = length-answers number;
@@ -60,7 +60,7 @@ module _ (t : Answers) where
         sym (difference_at (answers_of t.rows number) baselines pattern (length-answers number ∙ sym are.count_is) (omega (arith, h, length-answers number))
         ∙ ap (λ (answer : List Bool). not (same_bits answer (row_at baselines pattern))) (answer_at pattern number h))
 
-    -- the entries of all numbers are rows of as many bits as there are patterns
+    -- The entries of all numbers are rows of as many bits as there are patterns.
     pub entry_rows_are : AreRows t.numbers (length t.rows) (map (same_diff_entry t.rows baselines) (range_with_len 0 t.numbers))
     entry_rows_are =
         let entry = same_diff_entry t.rows baselines in
@@ -72,7 +72,7 @@ module _ (t : Answers) where
 
 -- ---- dictionaries whole
 
--- the entry rows are among the rows that were grouped
+-- The entry rows are among the rows that were grouped.
 pub entry_widths : {rows : List (List Bool)} {groups : List ℕ} {entries : List (List Bool)} {count width : ℕ} → AreGroupsOf rows groups entries → AreRows count width rows → All (λ row. length row ≡ width) entries
 entry_widths {rows} {groups} {entries} {count} {width} is are k d h =
     let has = (is.grouped.used k).1 h in
@@ -91,7 +91,7 @@ kind_count PassFail ne patterns = refl
 kind_count Full ne patterns = absurd (ne refl)
 kind_count SameDiff ne patterns = refl
 
--- a dictionary of groups of rows, each the entry of its number
+-- A dictionary of groups of rows, each the entry of its number.
 pub dictionary_of : (d : Dict) (t : Answers) (baselines : List (List Bool)) (entry : ℕ → List Bool) (rows : List (List Bool)) → rows ≡ map entry (range_with_len 0 t.numbers)
     → AreGroupsOf rows d.groups d.entries → AreRows t.numbers (entry_width d.kind (length t.rows) t.positions) rows
     → d.positions ≡ t.positions → d.patterns ≡ length t.rows → d.numbers ≡ t.numbers → d.baselines ≡ baselines → AreRows (baseline_count d.kind (length t.rows)) t.positions baselines

@@ -28,7 +28,7 @@ numbered_more {groups} group are next = record {
   ];
 }
 
--- a number that has come is below the count of those that came
+-- A group among those of the first `n` numbers is below `n`.
 pub used_below : {groups : List ℕ} → AreGroupNumbers groups → (n : ℕ) → n ≤ length groups → (group : ℕ) → Contains (take n groups) group → group < n
 used_below {groups} are zero h group has = absurd (none_in group has)
 used_below {groups} are (suc n) h group has =
@@ -45,7 +45,7 @@ used_below {groups} are (suc n) h group has =
       ]
     ]
 
--- so there are no more groups than numbers
+-- There are at most as many groups as numbers.
 few : (groups : List ℕ) (count : ℕ) → AreGroupNumbers groups → ((group : ℕ) → group < count → Contains groups group) → count ≤ length groups
 few groups count are used = elim (cases_lt (length groups) count) [
   | inr low ↦ low
@@ -62,7 +62,7 @@ few_firsts {rows} {count} {groups} {firsts} are = omega (arith, few groups (leng
 
 -- ---- one row more
 
--- the first rows, after a row came into a group
+-- The first rows after a row was put into a group.
 abbrev pub firsts_with : List ℕ → ℕ → ℕ → List ℕ
 firsts_with firsts group i = cond (eqb group (length firsts)) (firsts ++ i ∷ []) firsts
 
@@ -70,7 +70,7 @@ module _ (rows : List (List Bool)) (i : ℕ) (h : i < length rows) (groups first
   abbrev row : ℕ → List Bool
   row n = get_or rows n []
 
-  -- of a number before, the group and its first row are as they were
+  -- An earlier number keeps its group and its first row.
   group_was : (group n : ℕ) → n < i → get_or (groups ++ group ∷ []) n 0 ≡ get_or groups n 0
   group_was group n low = get_or_append_left groups (group ∷ []) 0 n (omega (arith, low, are.one_each))
 
@@ -86,7 +86,7 @@ module _ (rows : List (List Bool)) (i : ℕ) (h : i < length rows) (groups first
   last_first : get_or (firsts ++ i ∷ []) (length firsts) 0 ≡ i
   last_first = get_or_push firsts i 0 (length firsts) refl
 
-  -- the row begins a group
+  -- The row begins a group.
   pub begins : ((k : ℕ) → k < length firsts → row (get_or firsts k 0) ≢ row i) → AreFirstsOf rows (i + 1) (groups ++ length firsts ∷ []) (firsts ++ i ∷ [])
   begins none =
       let count = length firsts in
@@ -120,7 +120,7 @@ module _ (rows : List (List Bool)) (i : ℕ) (h : i < length rows) (groups first
         ];
       }
 
-  -- the row comes into a group that was begun
+  -- The row is put into a group that was begun.
   pub joins : (group : ℕ) → group < length firsts → row (get_or firsts group 0) ≡ row i → AreFirstsOf rows (i + 1) (groups ++ group ∷ []) firsts
   joins group known same = record {
     one_each = omega (arith, length_push groups group, are.one_each);
@@ -137,13 +137,13 @@ module _ (rows : List (List Bool)) (i : ℕ) (h : i < length rows) (groups first
     different = are.different;
   }
 
-  -- the group of a row is the one that is noted of its words, or the next one
+  -- The group of a row is the one that is noted for its words, or the next one.
   pub record Turn (group : ℕ) (noted : Bor (List ℕ) → Option ℕ) : Type 0 where
     pub within : group ≤ length firsts
     pub firsts_are : AreFirstsOf rows (i + 1) (groups ++ group ∷ []) (firsts_with firsts group i)
     pub noted_are : AreNoted rows (firsts_with firsts group i) noted
 
-  -- the first row is in group 0
+  -- The first row is in group 0.
   first_group : 0 < i → get_or groups 0 0 ≡ 0
   first_group later = elim (are.numbered.each 0 (omega (arith, later, are.one_each))) [
     | inl has ↦ absurd (none_in (get_or groups 0 0) has)
@@ -153,7 +153,7 @@ module _ (rows : List (List Bool)) (i : ℕ) (h : i < length rows) (groups first
     ]
   ]
 
-  -- and so is a row that is equal to it
+  -- A row that is equal to the first one is in group 0.
   pub first_turn : {old new : Bor (List ℕ) → Option ℕ} → AreNoted rows firsts old → 0 < i → row 0 ≡ row i → ((q : Bor (List ℕ)) → new q ≡ old q) → Turn 0 new
   first_turn {old} {new} noted later same news =
       let first = first_group later in
@@ -211,7 +211,7 @@ module _ (rows : List (List Bool)) (i : ℕ) (h : i < length rows) (groups first
 
 -- ---- all rows
 
--- at first there is no group
+-- At first there is no group.
 pub firsts_none : (rows : List (List Bool)) → AreFirstsOf rows 0 [] []
 firsts_none rows = record {
   one_each = refl;
@@ -223,7 +223,7 @@ firsts_none rows = record {
 }
 
 module _ (rows : List (List Bool)) (groups firsts : List ℕ) (are : AreFirstsOf rows (length rows) groups firsts) where
-  -- with the first rows as entries the rows are grouped
+  -- If the first rows are the entries, the rows are grouped.
   pub grouped_by : (entries : List (List Bool)) → entries ≡ map (λ n. get_or rows n []) firsts → AreGroupsOf rows groups entries
   grouped_by entries is =
       let long : length entries ≡ length firsts = ap length is ∙ length-map firsts (λ n. get_or rows n []) in
@@ -238,7 +238,7 @@ module _ (rows : List (List Bool)) (groups firsts : List ℕ) (are : AreFirstsOf
         own = λ n h. at (get_or groups n 0) ((are.used (get_or groups n 0)).0 (Contains-get_or groups n 0 (omega (arith, h, are.one_each)))) ∙ are.own n h;
       }
 
-  -- no group number is above its number
+  -- No group number is above its number.
   pub group_within : (n : ℕ) → n < length rows → get_or groups n 0 ≤ n
   group_within n h =
       let inside : n < length groups = omega (arith, h, are.one_each) in
@@ -256,7 +256,7 @@ module _ (rows : List (List Bool)) (groups firsts : List ℕ) (are : AreFirstsOf
         let known = (are.used (get_or groups k 0)).0 (Contains-get_or groups k 0 (omega (arith, low, h, are.one_each))) in
         (omega (arith, known, e), ap (λ g. get_or rows (get_or firsts g 0) []) (sym e) ∙ are.own k (omega (arith, low, h)))
 
-    -- where each of the first rows begins a group, they are different
+    -- If each of the first rows begins a group, they are different.
     pub different_to : AreDifferent (take n rows)
     different_to =
         let long : length (take n rows) ≡ n = length-take-le n rows h in
@@ -269,7 +269,7 @@ module _ (rows : List (List Bool)) (groups firsts : List ℕ) (are : AreFirstsOf
               are.different a b one.0 two.0 (one.1 ∙ (sym (get_or-take n rows a [] la) ∙ (e ∙ (get_or-take n rows b [] lb ∙ sym two.1))));
         }
 
-    -- and a next row that begins none is equal to one of them
+    -- A next row that begins no group is equal to one of them.
     pub repeats_first : n < length rows → get_or groups n 0 < n → IsFirstRepeat rows n
     repeats_first inside less =
         let group = get_or groups n 0 in

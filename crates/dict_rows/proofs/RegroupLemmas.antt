@@ -1,4 +1,4 @@
--- Groups of groups: a number's group is the one that the group of its first is in.
+-- Groups of groups: the group of a number is the group of its group's first number.
 use Rattle.std.proofs.Common.{◌≡◌, ◌∙◌, ℕ, zero, suc, ◌<◌, ◌≤◌, Bool, List, [], ◌∷◌, length, get_or, map, take, sym, ap, subst, arith, inl, inr, Contains}
 use Rattle.std.proofs.Math.Seq.{take-suc}
 use Rattle.std.proofs.lemmas.Bool.{cases_lt, cases_eq}
@@ -8,7 +8,7 @@ use Rattle.net_model.proofs.Elements.{Contains-map, none_in}
 use Rattle.dict_rows.specs.Grouped.{IsLeastUnused, AreGroupNumbers, AreFirstsOf, AreGroupsOf}
 use Rattle.dict_rows.proofs.GroupLemmas.{IsNext}
 
--- with a number that has come each lower one has
+-- If a group is among those of the first `n` numbers, each lower one is too.
 lower_used : {groups : List ℕ} → AreGroupNumbers groups → (n : ℕ) → n ≤ length groups → (group lower : ℕ) → lower < group → Contains (take n groups) group → Contains (take n groups) lower
 lower_used {groups} are zero h group lower less has = absurd (none_in group has)
 lower_used {groups} are (suc n) h group lower less has =
@@ -23,7 +23,7 @@ lower_used {groups} are (suc n) h group lower less has =
       | inr new ↦ lowest (get_or groups n 0) (omega (arith, less, new)) (are.each n inside)
     ]))
 
--- so a number that has come is below one that no lower number has
+-- A group among those of the first `n` numbers is below the least one that isn't among them.
 below_unused : {groups : List ℕ} → AreGroupNumbers groups → (n : ℕ) → n ≤ length groups → (least : ℕ) → IsLeastUnused (take n groups) least → (group : ℕ) → Contains (take n groups) group → group < least
 below_unused {groups} are n h least is group has = elim (cases_lt group least) [
   | inl low ↦ low
@@ -33,7 +33,7 @@ below_unused {groups} are n h least is group has = elim (cases_lt group least) [
   ]
 ]
 
--- what is among the first of a list is at one of their places
+-- What is among the first elements of a list is at one of their places.
 pub place_in : (xs : List ℕ) (n x : ℕ) → n ≤ length xs → Contains (take n xs) x → (k : ℕ) × (k < n) × (get_or xs k 0 ≡ x)
 place_in xs n x h (k, below, is) =
     let low : k < n = omega (arith, below, length-take-le n xs h) in
@@ -46,7 +46,7 @@ module _ (inner outer : List ℕ) (numbered : AreGroupNumbers inner) (again : Ar
   abbrev over : ℕ → ℕ
   over group = get_or outer group 0
 
-  -- the group of a group that has come has come
+  -- If a group is among the first inner ones, its group is among the first of the numbers.
   came : (n group : ℕ) → Contains (take n inner) group → Contains (take n (map over inner)) (over group)
   came n group has = subst (λ (xs : List ℕ). Contains xs (over group)) (sym (take-map over n inner)) (Contains-map over (take n inner) group has)
 
@@ -55,7 +55,7 @@ module _ (inner outer : List ℕ) (numbered : AreGroupNumbers inner) (again : Ar
       let at = place_in (map over inner) n x (omega (arith, h, length-map inner over)) has in
       (get_or inner at.0 0, at_place inner n at.0 h at.1, sym (get_or-map over inner at.0 0 0 (omega (arith, at.1, h))) ∙ at.2)
 
-  -- a first of a group that begins a group, or comes into one that has begun
+  -- The outer group of a group that begins at a number begins there too, or was used before.
   next_over : (n : ℕ) → n < length inner → IsLeastUnused (take n inner) (get_or inner n 0) → IsNext (take n (map over inner)) (over (get_or inner n 0))
   next_over n h least =
       let k = get_or inner n 0 in
@@ -81,7 +81,7 @@ module _ (inner outer : List ℕ) (numbered : AreGroupNumbers inner) (again : Ar
         subst (IsNext (take n (map over inner))) (sym (get_or-map over inner n 0 0 inside)) (elim (numbered.each n inside) [ inl old ↦ inl (came n (get_or inner n 0) old) | inr least ↦ next_over n inside least ]);
   }
 
--- the rows of groups in groups: each row is that of its group's group
+-- The rows of groups in groups: each row is that of its group's group.
 pub groups_over : {full rows cells entries : List (List Bool)} {inner firsts outer : List ℕ} → AreFirstsOf full (length full) inner firsts → AreGroupsOf cells outer entries → length cells ≡ length firsts → length rows ≡ length full
     → ((n : ℕ) → n < length full → get_or cells (get_or inner n 0) [] ≡ get_or rows n []) → AreGroupsOf rows (map (λ group. get_or outer group 0) inner) entries
 groups_over {full} {rows} {cells} {entries} {inner} {firsts} {outer} are groups some long same =

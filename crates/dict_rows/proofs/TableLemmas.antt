@@ -18,7 +18,7 @@ use Rattle.dict_rows.specs.AnswerTableFields.{answer_part, table_of, AreCells}
 use Rattle.dict_rows.specs.Entries.{full_entry}
 use Rattle.dict_rows.proofs.RowLemmas.{rows_later, width_at}
 
--- where a bit of a pattern is
+-- The place of a bit of a pattern.
 pub place_inside : (pattern patterns position positions : ℕ) → pattern < patterns → position < positions → pattern * positions + position < patterns * positions
 place_inside pattern patterns position positions hp hk = subst (λ n. pattern * positions + position < n) (mul_comm positions patterns) (mul-add-lt pattern positions position patterns hp hk)
 
@@ -26,11 +26,11 @@ module _ (a : Inside) (are : AreCells a) where
   pub patterns_are : length (table_of a).rows ≡ a.patterns
   patterns_are = length-map-range_with_len (λ pattern. map (answer_part a.positions pattern) a.cells) 0 a.patterns
 
-  -- what is within the table's sizes is within those of its fields
+  -- What is within the table's sizes is within those of its fields.
   pub in_fields : (t : Answers) → table_of a ≡ t → (end number : ℕ) → end ≤ length t.rows → number < t.numbers → (end ≤ a.patterns) × (number < a.numbers)
   in_fields t is end number he hn = (omega (arith, he, ap (λ (u : Answers). length u.rows) is, patterns_are), omega (arith, hn, ap (λ (u : Answers). u.numbers) is))
 
-  -- and a position's bit within the row of its number
+  -- The bit of a position is within the row of its number.
   pub bit_inside : (t : Answers) → table_of a ≡ t → (pattern number position : ℕ) → pattern < length t.rows → number < t.numbers → position < t.positions → pattern * a.positions + position < length (row_at a.cells number)
   bit_inside t is pattern number position hp hn hk =
       let inside = in_fields t is (pattern + 1) number (omega (arith, hp)) hn in
@@ -56,7 +56,7 @@ module _ (a : Inside) (are : AreCells a) where
       ∙ (get_or-take a.positions (drop (pattern * a.positions) (row_at a.cells number)) position false hk
       ∙ get_or-drop (pattern * a.positions) (row_at a.cells number) position false)
 
-  -- past the sizes there is no bit
+  -- Past the sizes there is no bit.
   pub no_bit : (pattern number position : ℕ) → ((pattern < a.patterns) × (number < a.numbers) × (position < a.positions) → answer_bit (table_of a) pattern number position ≡ false)
       → answer_bit (table_of a) pattern number position ≡ false
   no_bit pattern number position inside = elim (cases_lt pattern a.patterns) [
@@ -81,7 +81,7 @@ module _ (a : Inside) (are : AreCells a) where
         ap length (answer_is pattern number inside hn) ∙ part_width pattern (row_at a.cells number) inside (width_at are number hn);
   }
 
-  -- the answers to the first patterns, one behind another
+  -- The answers to the first patterns, one after another.
   parts : (number : ℕ) → number < a.numbers → (done : ℕ) → flat_map (λ row. answer_in row number) (map (λ pattern. map (answer_part a.positions pattern) a.cells) (range_with_len 0 done)) ≡ take (done * a.positions) (row_at a.cells number)
   parts number hn zero = sym (ap (λ n. take n (row_at a.cells number)) (zero-mul a.positions))
   parts number hn (suc done) =
@@ -105,7 +105,7 @@ module _ (a : Inside) (are : AreCells a) where
   pub cells_are : a.cells ≡ map (full_entry (table_of a).rows) (range_with_len 0 a.numbers)
   cells_are = fill_by_all (full_entry (table_of a).rows) a.cells a.numbers [] are.count_is entry_is
 
--- two places are the same only where pattern and position are
+-- Two places are the same only if the pattern and the position are.
 same_place : (positions p k q j : ℕ) → k < positions → j < positions → p * positions + k ≡ q * positions + j → (p ≡ q) × (k ≡ j)
 same_place positions p k q j hk hj e =
     let first : p ≡ q = sym (div-mul-add p positions k hk) ∙ (ap (λ n. n / positions) e ∙ div-mul-add q positions j hj) in

@@ -19,13 +19,13 @@ use Rattle.dict_rows.proofs.RowLemmas.{width_at}
 use Rattle.dict_rows.proofs.TableLemmas.{patterns_are, bit_is, is_table, place_inside}
 use Rattle.dict_rows.proofs.EntryLemmas.{same_bits-Decides}
 
--- the bit at a place of a word
+-- The bit at a place of a word.
 pub bit_in : {row : List Bool} {word bits : ℕ} → IsWordOf row word bits → (k : ℕ) → k / 64 ≡ word → bit_of bits (k % 64) ≡ bit_at row k
 bit_in {row} {word} {bits} is k e =
     let place : word * 64 + k % 64 ≡ k = omega (arith, e) in
     is.are (k % 64) (omega arith) ∙ ap (bit_at row) place
 
--- a bit of a packed row, and none past its end
+-- A bit of a packed row, and none past its end.
 pub packed_bit : {row : List Bool} {words : List ℕ} → IsPacked row words → (at : ℕ) → word_bit words 0 at ≡ bit_at row at
 packed_bit {row} {words} packed at = elim (cases_lt (at / 64) (length words)) [
   | inl inside ↦ packed.bits at inside
@@ -34,7 +34,7 @@ packed_bit {row} {words} packed at = elim (cases_lt (at / 64) (length words)) [
       ap (λ (w : ℕ). bit_of w (at % 64)) none ∙ (ap (λ n. eqb n 1) (bit_at-zero (at % 64)) ∙ sym (get_or_past row at false (omega (arith, past, packed.count))))
 ]
 
--- a word of a packed row
+-- A word of a packed row.
 pub word_of_packed : {row : List Bool} {words : List ℕ} → IsPacked row words → (word : ℕ) → IsWordOf row word (get_or words word 0)
 word_of_packed {row} {words} packed word = record {
   are = λ k below.
@@ -45,20 +45,20 @@ word_of_packed {row} {words} packed word = record {
 }
 
 module _ (row other : List Bool) (word : ℕ) {a b : ℕ} (is : IsWordOf row word a) (and : IsWordOf other word b) where
-  -- words that differ are of rows that differ
+  -- Words that differ are of rows that differ.
   pub differ_by : a < 2 ^ 64 → b < 2 ^ 64 → a ≢ b → same_bits row other ≡ false
   differ_by ha hb ne =
       false_from_ne_true (same_bits row other) (λ yes.
       ne (same_number 64 a b ha hb (λ k h. is.are k h ∙ (ap (λ (bits : List Bool). bit_at bits (word * 64 + k)) ((same_bits-Decides row other).0 yes) ∙ sym (and.are k h)))))
 
-  -- where the rows are alike before a word, and in it, they are behind it
+  -- If the rows agree before a word and in it, they agree up to its end.
   pub alike_more : ((k : ℕ) → k < word * 64 → bit_at row k ≡ bit_at other k) → a ≡ b → (k : ℕ) → k < (word + 1) * 64 → bit_at row k ≡ bit_at other k
   alike_more before same k h = elim (cases_eq (k / 64) word) [
     | inl here ↦ sym (bit_in is k here) ∙ (ap (λ n. bit_of n (k % 64)) same ∙ bit_in and k here)
     | inr ne ↦ before k (omega (arith, h, ne))
   ]
 
--- rows that are alike in all words are the same
+-- Rows that agree in all words are the same.
 pub alike_all : (row other : List Bool) (end : ℕ) → ((k : ℕ) → k < end → bit_at row k ≡ bit_at other k) → length row ≤ end → length row ≡ length other → same_bits row other ≡ true
 alike_all row other end alike over long = (same_bits-Decides row other).1 (same_bits_same_list row other long (λ k h. alike k (omega (arith, h, over))))
 

@@ -6,14 +6,15 @@ use Rattle.dict_rows.specs.declared.answer_table.AnswerTable.TheInside.{Inside}
 use Rattle.dict_rows.specs.AnswerTable.{Answers}
 use Rattle.dict_rows.specs.Rows.{AreRows}
 
--- the answer to a pattern, cut from the answers to all
+-- The answer to one pattern, cut from the answers to all.
 abbrev pub answer_part : ℕ → ℕ → List Bool → List Bool
 answer_part positions pattern bits = take positions (drop (pattern * positions) bits)
 
--- the answers of all numbers to each of so many patterns
+-- The answers of all numbers to each of the first `patterns` patterns.
 abbrev pub pattern_rows : ℕ → ℕ → List (List Bool) → List (List (List Bool))
 pattern_rows patterns positions cells = map (λ pattern. map (answer_part positions pattern) cells) (range_with_len 0 patterns)
 
+-- The table that the fields of an `AnswerTable` show.
 abbrev pub table_of : Inside → Answers
 table_of a = record { numbers = a.numbers; positions = a.positions; rows = pattern_rows a.patterns a.positions a.cells }
 

@@ -5,7 +5,7 @@ use Rattle.std.specs.Cmp.Lexicographic.{slice_cmp}
 use Rattle.std.specs.Ordering.{nat_cmp}
 use Rattle.std.specs.declared.cmp.Ordering.{Ordering}
 
--- the order of the words of rows
+-- The order of the words of rows.
 abbrev pub words_order : Bor (List ℕ) → Bor (List ℕ) → Ordering
 words_order a b = slice_cmp nat_cmp a.now b.now
 
@@ -22,14 +22,14 @@ pub record AreGroupNumbers (groups : List ℕ) : Type 0 where
 pub record AreDifferent (rows : List (List Bool)) : Type 0 where
   pub apart : (a b : ℕ) → a < length rows → b < length rows → slice_index_or rows a [] ≡ slice_index_or rows b [] → a ≡ b
 
--- There is a group number for each number and an entry row for each group that is used, and different rows differ.
+-- There is a group number for each number and an entry row for each used group, and different rows differ.
 pub record IsGrouped (numbers : ℕ) (groups : List ℕ) (entries : List (List Bool)) : Type 0 where
   pub one_each : length groups ≡ numbers
   pub numbered : AreGroupNumbers groups
   pub used : (group : ℕ) → Contains groups group ↔ (group < length entries)
   pub different : AreDifferent entries
 
--- the row of a number's group
+-- The row of a number's group.
 abbrev pub group_row : List ℕ → List (List Bool) → ℕ → List Bool
 group_row groups entries number = slice_index_or entries (slice_index groups number) []
 
@@ -38,7 +38,7 @@ pub record AreGroupsOf (rows : List (List Bool)) (groups : List ℕ) (entries : 
   pub grouped : IsGrouped (length rows) groups entries
   pub own : (n : ℕ) → n < length rows → group_row groups entries n ≡ slice_index_or rows n []
 
--- The groups of the first rows, so many, and the first row of each group.
+-- These are the groups of the first `count` rows, and the first row of each group.
 pub record AreFirstsOf (rows : List (List Bool)) (count : ℕ) (groups firsts : List ℕ) : Type 0 where
   pub one_each : length groups ≡ count
   pub numbered : AreGroupNumbers groups
@@ -47,7 +47,7 @@ pub record AreFirstsOf (rows : List (List Bool)) (count : ℕ) (groups firsts : 
   pub own : (n : ℕ) → n < count → slice_index_or rows (slice_index firsts (slice_index groups n)) [] ≡ slice_index_or rows n []
   pub different : (a b : ℕ) → a < length firsts → b < length firsts → slice_index_or rows (slice_index firsts a) [] ≡ slice_index_or rows (slice_index firsts b) [] → a ≡ b
 
--- A row is equal to an earlier one, and no earlier row is.
+-- The row is equal to an earlier one, and no earlier row is equal to another before it.
 pub record IsFirstRepeat (rows : List (List Bool)) (row : ℕ) : Type 0 where
   pub inside : row < length rows
   pub earlier : (r : ℕ) × (r < row) × (slice_index_or rows r [] ≡ slice_index_or rows row [])

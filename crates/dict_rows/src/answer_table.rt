@@ -2,7 +2,6 @@
 
 ghost use Rattle.std.specs.Prelude.{◌≡◌, ◌+◌, ◌*◌, ◌<◌, ◌≤◌, ◌%◌, ◌^◌, ℕ, false, length, map, All, IfOk};
 ghost use Rattle.std.specs.List.{range_with_len};
-ghost use Rattle.net_model.specs.ClassTable.{same_bits};
 ghost use Rattle.net_model.specs.Rows.{row_at};
 ghost use Rattle.dict_rows.specs.AnswerTable.{HasSizes, IsTable, HasBitSet, ArePicked, IsNumberSet, answer_to, answer_bit};
 ghost use Rattle.dict_rows.specs.Rows.{AreRows, IsRowSet, IsWordOf};
@@ -13,7 +12,8 @@ use net_model::{AnswerRows, low_bits, word_at};
 use std::alloc::{AllocError, Global};
 use std::marker::Model;
 
-/// A bit for each pattern, fault number and position: what the number answers to the pattern at the position.
+/// A table with a bit for each pattern, fault number and position: what the number answers to the pattern at the
+/// position.
 #[derive(Drop)]
 pub struct AnswerTable {
     // A row for each number: its answers, pattern by pattern.
@@ -35,7 +35,7 @@ impl Model for AnswerTable {
 }
 
 impl AnswerTable {
-    /// A table of bits that are all 0.
+    /// Returns a table of the given numbers of patterns, numbers and positions whose bits are all 0.
     pub fn zeros(
         alloc: Global,
         patterns: u32,
@@ -54,8 +54,8 @@ impl AnswerTable {
         })
     }
 
-    /// Every table stands: it has the sizes that it tells. A function whose proof needs this, and that calls nothing else
-    /// which says it, calls this. It does nothing.
+    /// States that the table has the sizes that it reports, which is true of every table. Does nothing. A function
+    /// whose proof needs this calls it if it calls nothing else that states it.
     pub fn stands(&self)
         ensures { IsTable self.now }
     {
@@ -83,7 +83,7 @@ impl AnswerTable {
         self.positions
     }
 
-    /// The answers of each number, pattern by pattern.
+    /// Returns a row for each number: its answers, pattern by pattern.
     pub fn cells(&self) -> &AnswerRows
         ensures table { IsTable self.now }
         ensures entries { result.now ≡ map (full_entry self.now.rows) (range_with_len 0 self.now.numbers) }
@@ -92,7 +92,7 @@ impl AnswerTable {
         &self.cells
     }
 
-    /// The answers of each number, pattern by pattern.
+    /// Turns the table into a row for each number: its answers, pattern by pattern.
     pub fn into_cells(self) -> AnswerRows
         ensures entries { result ≡ map (full_entry self.rows) (range_with_len 0 self.numbers) }
         ensures shape { AreRows self.numbers (length self.rows * self.positions) result }
@@ -100,7 +100,7 @@ impl AnswerTable {
         self.cells
     }
 
-    /// The table with the answers of these numbers.
+    /// Returns the table with the answers of the given numbers, in their order.
     pub fn pick(&self, alloc: Global, numbers: &[u32]) -> Result<AnswerTable, AllocError>
         requires inside { All (λ number. number < self.now.numbers) numbers.now }
         requires few { length numbers.now < 2 ^ 32 }
@@ -135,7 +135,8 @@ impl AnswerTable {
         set_bit(&mut self.cells, number as usize, at, bit);
     }
 
-    /// The bits of a number's answer to a pattern at the 64 positions of a word, the lowest first, and 0 past the last position.
+    /// Returns the bits of a number's answer to a pattern at the 64 positions of a word, the lowest position as the
+    /// lowest bit, and 0 past the last position.
     pub fn answer_word(&self, pattern: u32, number: u32, word: u32) -> u64
         requires pattern { pattern < length self.now.rows }
         requires number { number < self.now.numbers }
@@ -149,23 +150,7 @@ impl AnswerTable {
         low_bits(bits, (positions - first) as usize)
     }
 
-    /// Whether two numbers answer alike to a pattern.
-    pub fn answers_alike(&self, pattern: u32, a: u32, b: u32) -> bool
-        requires pattern { pattern < length self.now.rows }
-        requires a { a < self.now.numbers }
-        requires b { b < self.now.numbers }
-        ensures { result ≡ same_bits (answer_to self.now pattern a) (answer_to self.now pattern b) }
-    {
-        for word in 0..self.positions().div_ceil(64) {
-            let other = self.answer_word(pattern, b, word);
-            if self.answer_word(pattern, a, word) != other {
-                return false;
-            }
-        }
-        true
-    }
-
-    /// Copies the answer of a number to a pattern into a row of as many bits.
+    /// Copies the answer of a number to a pattern into a row with a bit for each position.
     pub fn copy_answer(&self, pattern: u32, number: u32, rows: &mut AnswerRows, row: usize)
         requires pattern { pattern < length self.now.rows }
         requires number { number < self.now.numbers }
@@ -179,8 +164,8 @@ impl AnswerTable {
         }
     }
 
-    /// Copies the first answers of the only number of another table as those of a number to so many patterns from the first
-    /// one on.
+    /// Copies the first `count` answers of the only number of `block` as the answers of `number` to the `count`
+    /// patterns starting at `first`, a multiple of 64. The answers of `number` to later patterns may change.
     pub fn copy_block(&mut self, number: u32, first: u32, count: u32, block: &AnswerTable)
         requires number { number < self.old.numbers }
         requires aligned { first % 64 ≡ 0 }
@@ -203,14 +188,14 @@ impl AnswerTable {
     }
 }
 
-// How many bits a number has.
+// Returns the number of bits of a number's answers.
 fn width_of(patterns: u32, positions: u32) -> usize
     ensures { result ≡ patterns * positions }
 {
     patterns as usize * positions as usize
 }
 
-// Where the bit of a position is among the answers of a number.
+// Returns the place of a bit in the answers of a number.
 fn place(pattern: u32, positions: u32, position: u32) -> usize
     requires { position < positions }
     ensures { result ≡ pattern * positions + position }
@@ -218,7 +203,7 @@ fn place(pattern: u32, positions: u32, position: u32) -> usize
     pattern as usize * positions as usize + position as usize
 }
 
-// How many words the answers to the patterns before one are, where they fill words.
+// Returns the number of words of the answers to the patterns before `first`, which fill whole words.
 fn words_before(first: u32, positions: u32) -> usize
     requires { first % 64 ≡ 0 }
     ensures words { result * 64 ≡ first * positions }

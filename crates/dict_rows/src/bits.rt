@@ -1,4 +1,4 @@
-//! Where bits of rows are written and copied.
+//! Writing and copying the bits of rows.
 
 ghost use Rattle.std.specs.Prelude.{◌≡◌, ◌+◌, ◌*◌, ◌^◌, ◌<◌, ℕ, length, map, All, IfOk};
 ghost use Rattle.net_model.specs.Rows.{bit_of, row_at, row_bit};
@@ -17,7 +17,7 @@ pub(crate) fn set_bit(rows: &mut AnswerRows, row: usize, at: usize, bit: bool)
     rows.set(row, at, bit);
 }
 
-/// Writes a row: at each place the bit that a test of the place answers.
+/// Writes a row: each place gets the bit that `test` returns for it.
 pub fn write_row<F: Fn(usize) -> bool>(rows: &mut AnswerRows, row: usize, test: F)
     requires row { row < length rows.old }
     requires callable { (at : ℕ) → at < length (row_at rows.old row) → F.pre test at }
@@ -30,7 +30,8 @@ pub fn write_row<F: Fn(usize) -> bool>(rows: &mut AnswerRows, row: usize, test: 
     }
 }
 
-// What a test answers at the 64 places from one on, the lowest bit first, or at those before the end.
+// Returns what `test` returns for the 64 places starting at `first`, or for those before `end` if there are fewer, the
+// lowest place as the lowest bit.
 fn tested_word<F: Fn(usize) -> bool>(test: &F, first: usize, end: usize) -> u64
     requires some { first < end }
     requires callable { (at : ℕ) → at < end → F.pre test.now at }
@@ -45,7 +46,7 @@ fn tested_word<F: Fn(usize) -> bool>(test: &F, first: usize, end: usize) -> u64
     bits
 }
 
-/// Copies a row of as many bits into another place.
+/// Copies a row into a row of the same width.
 pub(crate) fn copy_row(from: &AnswerRows, source: usize, to: &mut AnswerRows, target: usize)
     requires source { source < length from.now }
     requires target { target < length to.old }
@@ -57,7 +58,7 @@ pub(crate) fn copy_row(from: &AnswerRows, source: usize, to: &mut AnswerRows, ta
     }
 }
 
-/// Copies words from the beginning of a row into a row from a word on, so many.
+/// Copies the first `count` words of a row into another row, starting at word `begin`.
 pub(crate) fn copy_words(
     from: &AnswerRows,
     source: usize,
@@ -79,7 +80,7 @@ pub(crate) fn copy_words(
     }
 }
 
-/// The rows at these places.
+/// Returns the rows at the given places, in their order.
 pub fn rows_at(alloc: Global, rows: &AnswerRows, places: &[u32]) -> Result<AnswerRows, AllocError>
     requires { All (λ place. place < length rows.now) places.now }
     ensures { IfOk result (λ picked. picked ≡ map (row_at rows.now) places.now) }
@@ -92,7 +93,7 @@ pub fn rows_at(alloc: Global, rows: &AnswerRows, places: &[u32]) -> Result<Answe
     Ok(picked)
 }
 
-/// The same rows again.
+/// Returns a copy of the rows.
 pub(crate) fn copy_rows(alloc: Global, rows: &AnswerRows) -> Result<AnswerRows, AllocError>
     ensures { IfOk result (λ copy. copy ≡ rows.now) }
 {

@@ -7,7 +7,7 @@ use net_model::AnswerRows;
 use std::alloc::{AllocError, Global};
 use std::marker::Model;
 
-/// Pass/fail, full-response or same/different.
+/// The kind of a fault dictionary: pass/fail, full-response or same/different.
 #[derive(Clone, Copy, Debug, PartialEq, Eq)]
 pub enum DictKind {
     PassFail,
@@ -30,7 +30,7 @@ impl Groups {
         }
     }
 
-    /// No groups, and room for so many.
+    /// Returns no groups, with room for the given number of them.
     pub fn with_room(alloc: Global, groups: usize) -> Result<Groups, AllocError>
         ensures { IfOk result (λ groups. groups ≡ []) }
     {
@@ -39,6 +39,7 @@ impl Groups {
         })
     }
 
+    /// Appends the group of the next number. After an error nothing has changed.
     pub fn push(&mut self, group: u32) -> Result<(), AllocError>
         ensures ok { OnOk result (self.new ≡ self.old ++ group ∷ []) }
         ensures err { OnErr result (self.new ≡ self.old) }
@@ -60,8 +61,8 @@ impl Model for Groups {
     ghost view = { λ g. g.groups.items };
 }
 
-/// A fault dictionary: the entry of a fault number is the row of its group. A full dictionary has no baselines; one of
-/// another kind has a baseline of `positions` bits for each pattern.
+/// A fault dictionary: the entry of a fault number is the row of its group. A full dictionary has no baselines; each
+/// other kind has a baseline of `positions` bits for each pattern.
 pub struct Dict {
     pub kind: DictKind,
     pub positions: u32,
@@ -72,8 +73,8 @@ pub struct Dict {
     pub entries: AnswerRows,
 }
 
-// Written out, it is one step in the proof of each function that lets a dictionary go, where a derived one is a step for
-// each list in it.
+// Written by hand so that a drop of a dictionary is one step in the proof of each function that drops one. A derived
+// one takes a step for each list in it.
 impl Drop for Dict {
     fn drop(self) {
         let Dict {
@@ -89,7 +90,7 @@ impl Drop for Dict {
 }
 
 impl Dict {
-    /// How many groups there are, with an entry row for each.
+    /// Returns the number of groups, which is that of the entry rows.
     pub fn group_count(&self) -> u32
         requires { IsGrouped self.now.numbers self.now.groups self.now.entries }
         ensures { result ≡ length self.now.entries }

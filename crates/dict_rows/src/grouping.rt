@@ -1,4 +1,4 @@
-//! Equal rows in groups, by an ordered map over their words.
+//! Groups of equal rows, found by an ordered map over their words.
 
 ghost use Rattle.net_model.specs.Rows.{row_at};
 ghost use Rattle.std.specs.BTreeMap.{get};
@@ -20,7 +20,7 @@ pub struct Grouped {
     pub entries: AnswerRows,
 }
 
-/// The groups of equal rows, numbered in order of their first rows.
+/// Returns the groups of equal rows, numbered in the order of their first rows.
 pub fn group_rows(alloc: Global, rows: &AnswerRows) -> Result<Grouped, AllocError>
     requires { length rows.now < 2 ^ 32 }
     ensures { IfOk result (λ grouped. AreGroupsOf rows.now grouped.groups grouped.entries) }
@@ -33,7 +33,7 @@ pub fn group_rows(alloc: Global, rows: &AnswerRows) -> Result<Grouped, AllocErro
     })
 }
 
-/// The first row that is equal to an earlier one, if there is one.
+/// Returns the first row that is equal to an earlier one. Returns none exactly if all rows are different.
 pub fn first_repeat(alloc: Global, rows: &AnswerRows) -> Result<Option<u32>, AllocError>
     requires { length rows.now < 2 ^ 32 }
     ensures { IfOk result (λ found. MatchOption found (AreDifferent rows.now) (IsFirstRepeat rows.now)) }
@@ -55,7 +55,7 @@ pub struct Sorted {
 }
 
 impl Sorted {
-    /// No groups.
+    /// Returns the state before the first row, without groups.
     pub fn new(alloc: Global) -> Sorted
         ensures groups { result.groups ≡ [] }
         ensures firsts { result.firsts.items ≡ [] }
@@ -66,7 +66,8 @@ impl Sorted {
         }
     }
 
-    /// Puts the next row into a group, or begins one. After an error no group was begun, and the row may have its group.
+    /// Puts the next row, `row`, into a group, or begins a group if `group` is the next number. After an error no group
+    /// was begun, and the row may have its group.
     pub fn put(&mut self, group: u32, row: u32) -> Result<(), AllocError>
         requires { group ≤ length self.old.firsts.items }
         ensures groups { OnOk result (self.new.groups ≡ self.old.groups ++ group ∷ []) }
@@ -98,7 +99,7 @@ fn sort(alloc: Global, rows: &AnswerRows) -> Result<Sorted, AllocError>
     Ok(sorted)
 }
 
-// Whether a row is behind the first one and equal to it.
+// Returns whether the row is equal to the first row and isn't that row itself.
 fn equals_first(rows: &AnswerRows, row: usize) -> bool
     requires { row < length rows.now }
     ensures { IsTrue result ↔ (0 < row) × (row_at rows.now 0 ≡ row_at rows.now row) }
@@ -106,8 +107,8 @@ fn equals_first(rows: &AnswerRows, row: usize) -> bool
     row > 0 && rows.same_rows(0, row)
 }
 
-// The group of the first row where the words are its words, else the one noted for them, which is the next one where there was
-// none.
+// Returns group 0 if `first` is set, that is, the words are those of the first row. Otherwise returns the group noted
+// for the words; if none is noted, notes `next` and returns it.
 fn group_with<'a>(
     begun: &mut BTreeMap<&'a [u64], u32>,
     words: &'a [u64],

@@ -1,4 +1,4 @@
-//! Tables of answers, and the fault dictionaries made of them.
+//! Tables of answers, and the fault dictionaries made from them.
 #![tactic(auto)]
 
 mod answer_table;

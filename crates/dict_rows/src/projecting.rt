@@ -1,4 +1,4 @@
-//! Dictionaries of a table of answers.
+//! Dictionaries made from a table of answers.
 
 ghost use Rattle.net_model.specs.ClassTable.{same_bits};
 ghost use Rattle.net_model.specs.Rows.{row_at};
@@ -16,7 +16,7 @@ use crate::grouping::group_rows;
 use net_model::AnswerRows;
 use std::alloc::{AllocError, Global};
 
-/// The full-response dictionary: an entry has all bits of a number's answers, pattern by pattern.
+/// Returns the full-response dictionary: an entry has all bits of a number's answers, pattern by pattern.
 pub fn full(alloc: Global, table: &AnswerTable) -> Result<Dict, AllocError>
     requires { 0 < table.now.numbers }
     ensures { IfOk result (IsFull table.now) }
@@ -34,7 +34,8 @@ pub fn full(alloc: Global, table: &AnswerTable) -> Result<Dict, AllocError>
     })
 }
 
-/// The pass/fail dictionary: an entry says at which patterns a number answers otherwise than the fault-free circuit.
+/// Returns the pass/fail dictionary: an entry says at which patterns a number answers differently from the fault-free
+/// circuit.
 pub fn pass_fail(alloc: Global, table: &AnswerTable) -> Result<Dict, AllocError>
     requires { 0 < table.now.numbers }
     ensures { IfOk result (IsPassFail table.now) }
@@ -43,7 +44,7 @@ pub fn pass_fail(alloc: Global, table: &AnswerTable) -> Result<Dict, AllocError>
     by_baselines(alloc, DictKind::PassFail, table, free)
 }
 
-/// The same/different dictionary: an entry says at which patterns a number answers otherwise than the baseline.
+/// Returns the same/different dictionary: an entry says at which patterns a number's answer differs from the baseline.
 pub fn project(
     alloc: Global,
     table: &AnswerTable,
@@ -57,7 +58,7 @@ pub fn project(
     by_baselines(alloc, DictKind::SameDiff, table, baselines)
 }
 
-// The dictionary of one of the kinds with baselines.
+// Returns the dictionary of a kind with baselines.
 fn by_baselines(
     alloc: Global,
     kind: DictKind,
@@ -82,7 +83,7 @@ fn by_baselines(
     })
 }
 
-/// What a number answers, a row for each pattern.
+/// Returns what a number answers, a row for each pattern.
 pub fn answers_of(alloc: Global, table: &AnswerTable, number: u32) -> Result<AnswerRows, AllocError>
     requires { number < table.now.numbers }
     ensures rows { IfOk result (λ rows. rows ≡ answers_of table.now.rows number) }
@@ -96,7 +97,7 @@ pub fn answers_of(alloc: Global, table: &AnswerTable, number: u32) -> Result<Ans
     Ok(rows)
 }
 
-// The entry of each number: at which patterns it answers otherwise than the baseline.
+// Returns the entry of each number: at which patterns its answer differs from the baseline.
 fn differences(
     alloc: Global,
     table: &AnswerTable,
@@ -114,7 +115,7 @@ fn differences(
     Ok(rows)
 }
 
-// Writes the entry of a number.
+// Writes the entry of `number`.
 fn write_differences(
     table: &AnswerTable,
     baselines: &AnswerRows,
@@ -132,7 +133,7 @@ fn write_differences(
     });
 }
 
-// Whether the answer of a number to a pattern differs from the baseline.
+// Returns whether the answer of a number to a pattern differs from the baseline.
 fn differs(table: &AnswerTable, baselines: &AnswerRows, pattern: u32, number: u32) -> bool
     requires pattern { pattern < length table.now.rows }
     requires number { number < table.now.numbers }

@@ -19,7 +19,8 @@ use Rattle.run_steps.proofs.CheckedLemmas.{answers_of_table, are_answers}
 of_patterns : {c : Circuit} {patterns : List (List Bool)} {t : ClassTable} (kind : EntryKind) {d : Dict} → IsTableOf c patterns t → ((answers : Answers) → AreAnswers c patterns answers → IsOfAnswers kind t answers d) → IsOfPatterns c kind patterns t d
 of_patterns {c} {patterns} {t} kind {d} is made = record { answers = answers_of_table is; are = are_answers is; is = made (answers_of_table is) (are_answers is) }
 
--- a dictionary that has what any answers of a kind make is one of that kind, where it was asked for
+-- A dictionary that is of a kind for all answers to the patterns is of the kind that was asked for, if both kinds are
+-- the same.
 pub kind_made : {c : Circuit} {patterns : List (List Bool)} {t : ClassTable} {asked kind : EntryKind} {E : Type 0} (made : Result Dict E) → asked ≡ kind → IsTableOf c patterns t → IfOk made (λ (d : Dict). (answers : Answers) → AreAnswers c patterns answers → IsOfAnswers kind t answers d) → IfOk made (IsOfPatterns c asked patterns t)
 kind_made {c} {patterns} {t} {asked} {kind} {E} made is table of_answers =
     subst (λ (k : EntryKind). IfOk made (IsOfPatterns c k patterns t)) (sym is)
@@ -37,6 +38,6 @@ module _ {c : Circuit} {kind : EntryKind} {patterns : List (List Bool)} {t : Cla
   pub shaped_of : IsShaped d
   shaped_of = (grouped_by kind t is.answers d is.is).1
 
-  -- the numbers of its classes are those of the dictionary
+  -- The classes have as many numbers as the dictionary.
   pub numbers_of : IsTableOf c patterns t → length t.class_of ≡ d.numbers
   numbers_of table = table_numbers table ∙ (sym is.are.numbers ∙ sym (grouped_by kind t is.answers d is.is).2)

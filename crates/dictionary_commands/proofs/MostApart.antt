@@ -18,13 +18,13 @@ use Rattle.samediff_dict.proofs.PairLemmas.{pairs_to, pairs_are, pairs_same}
 use Rattle.samediff_dict.proofs.ImproveLemmas.{pairs_apart_are}
 use Rattle.dictionary_commands.specs.Dictionaries.{KeepsMostApart, pairs_kept}
 
--- the pairs apart are counted among those of the classes
+-- The pairs that are kept apart are counted among the pairs of classes.
 kept_are : (t : ClassTable) (d : Dict) → pairs_kept t d ≡ pairs_to (class_count t) (has_apart t (entry_of d))
 unfolding apart_count
 kept_are t d = pairs_are (class_count t) (has_apart t (entry_of d))
 
 module _ {c : Circuit} {patterns : List (List Bool)} {t : ClassTable} (table : IsTableOf c patterns t) (whole : IsWhole t) where
-  -- the pairs that a dictionary keeps apart are those that its baselines do
+  -- The pairs that a dictionary keeps apart are those that its baselines keep apart.
   kept_by : {answers : Answers} {kind : DictKind} {baselines : List (List Bool)} {d : Dict} → AreAnswers c patterns answers → IsDictionary d kind answers baselines (same_diff_entry answers.rows baselines) → pairs_kept t d ≡ pairs_apart t answers.rows baselines
   kept_by {answers} {kind} {baselines} {d} are is =
       let entry = same_diff_entry answers.rows baselines in

@@ -1,4 +1,4 @@
--- Which adaptive plan is made of a result, and what is printed of where a log leads in one.
+-- Which adaptive plan is made from a result, and what is printed of where a log leads in a plan.
 use Rattle.std.specs.Prelude.{◌≡◌, ℕ, ◌<◌, Bool, List}
 use Rattle.net_model.specs.Circuit.{Circuit}
 use Rattle.net_model.specs.FaultList.{fault_count, fault_numbered}
@@ -21,7 +21,8 @@ use Rattle.dictionary_commands.specs.Texts.{outcome_text, plan_counts_text}
 
 -- ---- what is made
 
--- The plan is that of the classes of these patterns. It is well formed and short, and leads each fault's own answers to its class.
+-- The plan is that of these classes by the answers to these patterns. It is well formed and short, and leads each
+-- fault's own answers to its class. That the classes are those of the patterns is no part of this.
 pub record IsPlanOf (c : Circuit) (patterns : List (List Bool)) (classes : ClassTable) (plan : AdaptivePlan) : Type 0 where
   pub answers : Answers
   pub are : AreAnswers c patterns answers
@@ -30,7 +31,7 @@ pub record IsPlanOf (c : Circuit) (patterns : List (List Bool)) (classes : Class
   pub short : IsShort plan
   pub home : (number : ℕ) → number < fault_count c → LeadsHome plan (IsOfFault c patterns (fault_numbered c number)) (class_at classes number)
 
--- The file is the text of that plan, and the text is printed of it.
+-- The file is the text of the plan for these classes at these patterns, and the text is what is printed of it.
 pub record IsPlanFileOf (c : Circuit) (patterns : List (List Bool)) (classes : ClassTable) (file text : Text) : Type 0 where
   pub plan : AdaptivePlan
   pub planned : IsPlanOf c patterns classes plan
@@ -38,7 +39,8 @@ pub record IsPlanFileOf (c : Circuit) (patterns : List (List Bool)) (classes : C
   pub file_is : file ≡ plan_text plan
   pub text_is : text ≡ plan_counts_text plan.classes (ask_count plan.steps) (depth_of root.node)
 
--- That of the patterns of a valid result for the circuit.
+-- The file is the text of the plan for the classes of the patterns of a valid result for the circuit, and the text is
+-- what is printed of it.
 pub record IsMadePlan (c : Circuit) (result file text : Text) : Type 0 where
   pub records : List Record
   pub spelled : result ≡ text_of records

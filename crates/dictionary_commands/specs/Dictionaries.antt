@@ -1,4 +1,4 @@
--- Which dictionary is made of a result, and what is printed of one.
+-- Which dictionary is made from a result, and what is printed of a dictionary.
 use Rattle.std.specs.Prelude.{◌≡◌, ◌≤◌, ℕ, ◌-◌, ◌*◌, ◌/◌, Bool, List, length, slice_set}
 use Rattle.net_model.specs.Circuit.{Circuit}
 use Rattle.net_model.specs.ClassTable.{ClassTable, class_count}
@@ -21,38 +21,41 @@ use Rattle.dictionary_commands.specs.Texts.{apart_text, groups_text, numbers_tex
 
 -- ---- what is made
 
--- The dictionary of a kind is that of these answers. A same/different one has the baselines that are chosen for these classes.
+-- The dictionary is the one of this kind for these answers. A same/different one has the baselines that are chosen for
+-- these classes.
 abbrev pub IsOfAnswers : EntryKind → ClassTable → Answers → Dict → Type 0
 IsOfAnswers PassFail classes answers d = IsPassFail answers d
 IsOfAnswers Full classes answers d = IsFull answers d
 IsOfAnswers SameDiff classes answers d = IsSameDiff answers (chosen_baselines classes answers.rows) d
 
--- The dictionary has the entries of all numbers of the circuit at these patterns, which have these classes.
+-- The dictionary is of this kind, and has the entries of all numbers of the circuit at these patterns. A same/different
+-- one has the baselines that are chosen for these classes, which needn't be those of the patterns.
 pub record IsOfPatterns (c : Circuit) (kind : EntryKind) (patterns : List (List Bool)) (classes : ClassTable) (d : Dict) : Type 0 where
   pub answers : Answers
   pub are : AreAnswers c patterns answers
   pub is : IsOfAnswers kind classes answers d
 
--- how many pairs of classes a dictionary keeps apart
+-- How many pairs of classes the dictionary keeps apart.
 abbrev pub pairs_kept : ClassTable → Dict → ℕ
 pairs_kept classes d = apart_count classes (entry_of d)
 
--- what is printed of a dictionary and the classes of its patterns
+-- What is printed of a dictionary and the classes of its patterns.
 abbrev pub dictionary_counts : Dict → ClassTable → Text
 dictionary_counts d t = apart_text d.numbers d.patterns (class_count t) (pairs_kept t d)
 
--- how many pairs there are of so many
+-- How many pairs of `n` things there are.
 abbrev pub pair_count : ℕ → ℕ
 pair_count n = n * (n - 1) / 2
 
--- Of the dictionaries at these patterns neither a pass/fail one keeps more pairs of classes apart than this one, nor a same/different one
--- that has any row, of as many bits, in place of one of its baselines.
+-- Among the dictionaries at these patterns no pass/fail one keeps more pairs of classes apart than this one, and no
+-- same/different one does that has any row, of as many bits, in place of one of its baselines.
 pub record KeepsMostApart (c : Circuit) (patterns : List (List Bool)) (classes : ClassTable) (d : Dict) : Type 0 where
   pub by_free : (other : Dict) → IsOfPatterns c PassFail patterns classes other → pairs_kept classes other ≤ pairs_kept classes d
   pub by_row : (answers : Answers) (pattern : ℕ) (row : List Bool) (other : Dict) → AreAnswers c patterns answers → IsSameDiff answers (slice_set d.baselines pattern row) other → pairs_kept classes other ≤ pairs_kept classes d
 
--- The file is that of the dictionary at these patterns, and the text is printed of it and of the classes of the patterns. A full
--- dictionary keeps each pair of classes apart, and a same/different one the most.
+-- The file is version 2 of the dictionary of this kind at these patterns, and the text is what is printed of it and of
+-- the classes of the patterns. A full dictionary keeps each pair of classes apart, and a same/different one the most,
+-- as `KeepsMostApart` has it.
 pub record IsMadeOf (c : Circuit) (kind : EntryKind) (patterns : List (List Bool)) (classes : ClassTable) (file text : Text) : Type 0 where
   pub dictionary : Dict
   pub entries : IsOfPatterns c kind patterns classes dictionary
@@ -61,7 +64,8 @@ pub record IsMadeOf (c : Circuit) (kind : EntryKind) (patterns : List (List Bool
   pub all_apart : kind ≡ Full → pairs_kept classes dictionary ≡ pair_count (class_count classes)
   pub most_apart : kind ≡ SameDiff → KeepsMostApart c patterns classes dictionary
 
--- That of the patterns of a valid result for the circuit.
+-- The file is version 2 of the dictionary of this kind at the patterns of a valid result for the circuit, and the text
+-- is what is printed of it and of the classes of the patterns.
 pub record IsMadeDictionary (c : Circuit) (kind : EntryKind) (result file text : Text) : Type 0 where
   pub records : List Record
   pub spelled : result ≡ text_of records
@@ -70,11 +74,11 @@ pub record IsMadeDictionary (c : Circuit) (kind : EntryKind) (result file text :
   pub table : IsTableOf c (patterns_in records) classes
   pub made : IsMadeOf c kind (patterns_in records) classes file text
 
--- The file has the dictionary in version 2, and the text is printed of it.
+-- The file has the dictionary in version 2, and the text is what is printed of it.
 pub record IsConverted (d : Dict) (file text : Text) : Type 0 where
   pub file_is : file ≡ dict_spelling Two d
   pub text_is : text ≡ groups_text d.numbers d.patterns (length d.entries)
 
--- The text lists the numbers of which the dictionary has the entry of these observed answers.
+-- The text lists the numbers whose entry in the dictionary is that of these observed answers.
 abbrev pub IsDiagnosis : Dict → List (List Bool) → Text → Type 0
 IsDiagnosis d observed text = text ≡ numbers_text (listed_numbers d observed)

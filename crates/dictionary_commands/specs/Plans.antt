@@ -8,26 +8,26 @@ use Rattle.run_steps.specs.Plans.{with_netlist, with_result, with_dictionary, wi
 use Rattle.request_words.specs.declared.request.EntryKind.{EntryKind}
 use Rattle.std.specs.Prelude.{ℕ}
 
--- `dict`: the dictionary of a kind is made of a valid result
+-- `dict`: reads a netlist and a result, and makes the dictionary of this kind at the result's patterns.
 abbrev pub dict_plan : EntryKind → Text → Text → Text → Plan
 dict_plan kind bench result dict = with_netlist bench (λ design. with_result result design.circuit (λ file. makes_file dict (IsMadeDictionary design.circuit kind file)))
 
--- `convert`: version 2 of a dictionary is made
+-- `convert`: reads a dictionary, and makes version 2 of it.
 abbrev pub convert_plan : Text → Text → Plan
 convert_plan old new = with_dictionary old (λ d. makes_file new (IsConverted d))
 
--- `diagnose`: the numbers are printed whose entry is that of a log
+-- `diagnose`: reads a dictionary and a log, and prints the numbers whose entry is that of the log.
 abbrev pub diagnose_plan : Text → Text → Plan
 diagnose_plan dict log = with_dictionary dict (λ d. with_log log d (λ observed. says (IsDiagnosis d observed)))
 
--- `rank`: the numbers are printed that a partial log contradicts least
+-- `rank`: reads a dictionary and a partial log, and prints the numbers that the log contradicts least.
 abbrev pub rank_plan : Text → Text → ℕ → Plan
 rank_plan dict log within = with_dictionary dict (λ d. with_partial log d (λ lines. says (IsRankText d lines within)))
 
--- `adapt`: an adaptive plan is made of a valid result
+-- `adapt`: reads a netlist and a result, and makes the adaptive plan for the classes of the result's patterns.
 abbrev pub adapt_plan : Text → Text → Text → Plan
 adapt_plan bench result plan = with_netlist bench (λ design. with_result result design.circuit (λ file. makes_file plan (IsMadePlan design.circuit file)))
 
--- `follow`: it is printed where a log leads in an adaptive plan
+-- `follow`: reads an adaptive plan and a log of answers to it, and prints where the log leads in the plan.
 abbrev pub follow_plan : Text → Text → Plan
 follow_plan plan log = with_adaptive_plan plan (λ adaptive. with_walk log adaptive (λ outcome. says (IsOutcomeText outcome)))

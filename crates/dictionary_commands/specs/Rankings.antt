@@ -7,7 +7,8 @@ use Rattle.ranked_diag.specs.Ranked.{least, IsRanking}
 use Rattle.text_fields.specs.Fields.{Text}
 use Rattle.dictionary_commands.specs.Texts.{ranks_text}
 
--- The text lists the numbers whose mismatches are within so much of the least, ranked.
+-- The text lists the numbers whose mismatches are at most `within` above the least, ranked, and says how many they are
+-- and the least.
 pub record IsRankText (d : Dict) (lines : List Line) (within : ℕ) (text : Text) : Type 0 where
   pub ranks : List (ℕ × ℕ)
   pub ranking : IsRanking (mismatch_counts d lines) within ranks

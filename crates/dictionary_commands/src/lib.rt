@@ -1,17 +1,19 @@
 //! The commands about dictionaries and adaptive plans, over any shelf.
+//!
+//! What comments say of files and of the console holds on a shelf that tells them.
 #![tactic(auto)]
 
-mod converts;
-mod diagnoses;
-mod follows;
-mod makes_dicts;
-mod makes_plans;
-mod rankings;
+mod adapt;
+mod convert;
+mod diagnosis;
+mod dict;
+mod follow;
+mod rank;
 mod texts;
 
-pub use converts::convert_file;
-pub use diagnoses::diagnose_log;
-pub use follows::follow_log;
-pub use makes_dicts::make_dictionary;
-pub use makes_plans::make_plan;
-pub use rankings::rank_log;
+pub use adapt::make_plan;
+pub use convert::convert_file;
+pub use diagnosis::diagnose_log;
+pub use dict::make_dictionary;
+pub use follow::follow_log;
+pub use rank::rank_log;

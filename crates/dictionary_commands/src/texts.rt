@@ -1,4 +1,4 @@
-//! The lines of the console.
+//! The lines of the console about dictionaries, numbers, ranks and plans.
 
 ghost use Rattle.std.specs.Prelude.{◌≡◌, ◌++◌, IfOk, OnOk, string_bytes};
 ghost use Rattle.dictionary_commands.specs.Texts.{apart_text, groups_text, number_line, listed_text, rank_line, least_text, plan_counts_text, outcome_text};
@@ -6,7 +6,7 @@ ghost use Rattle.dictionary_commands.specs.Texts.{apart_text, groups_text, numbe
 use adaptive_tree::Outcome;
 use std::alloc::{AllocError, Global};
 
-/// What a dictionary has, and how many pairs of classes it keeps apart.
+/// Returns the line with what a dictionary has, and how many pairs of classes it keeps apart.
 #[tactic(auto, unfolding(crate::specs::Texts::apart_text))]
 pub(crate) fn apart_text(
     alloc: Global,
@@ -20,7 +20,7 @@ pub(crate) fn apart_text(
     format!(in alloc; "numbers {numbers} patterns {patterns} classes {classes} apart {apart}\n")
 }
 
-/// What a dictionary has.
+/// Returns the line with what a dictionary has.
 #[tactic(auto, unfolding(crate::specs::Texts::groups_text))]
 pub(crate) fn groups_text(
     alloc: Global,
@@ -33,7 +33,7 @@ pub(crate) fn groups_text(
     format!(in alloc; "numbers {numbers} patterns {patterns} groups {groups}\n")
 }
 
-/// A number.
+/// Returns the line of a number.
 #[tactic(auto, unfolding(crate::specs::Texts::number_line))]
 pub(crate) fn number_line(alloc: Global, number: u32) -> Result<String, AllocError>
     ensures { IfOk result (λ text. string_bytes text ≡ number_line number) }
@@ -41,7 +41,7 @@ pub(crate) fn number_line(alloc: Global, number: u32) -> Result<String, AllocErr
     format!(in alloc; "{number}\n")
 }
 
-/// How many numbers were listed.
+/// Returns the line with how many numbers were listed.
 #[tactic(auto, unfolding(crate::specs::Texts::listed_text))]
 pub(crate) fn listed_text(alloc: Global, count: usize) -> Result<String, AllocError>
     ensures { IfOk result (λ text. string_bytes text ≡ listed_text count) }
@@ -65,7 +65,7 @@ pub(crate) fn push_least(text: &mut String, listed: usize, least: u64) -> Result
     writeln!(text, "listed {listed} least {least}")
 }
 
-/// The classes, asks and depth of a plan.
+/// Returns the line with the classes, asks and depth of a plan.
 #[tactic(auto, unfolding(crate::specs::Texts::plan_counts_text))]
 pub(crate) fn plan_counts_text(
     alloc: Global,
@@ -78,7 +78,7 @@ pub(crate) fn plan_counts_text(
     format!(in alloc; "classes {classes} asks {asks} depth {depth}\n")
 }
 
-/// Where a log leads.
+/// Returns the line that says where a log leads.
 #[tactic(auto, unfolding(crate::specs::Texts::outcome_text))]
 pub(crate) fn outcome_text(alloc: Global, outcome: Outcome) -> Result<String, AllocError>
     ensures { IfOk result (λ text. string_bytes text ≡ outcome_text outcome) }

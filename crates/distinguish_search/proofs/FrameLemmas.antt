@@ -104,7 +104,7 @@ pub splits_twice : (sources : ℕ) (a b d : List Frame) → SplitsOn sources a b
 splits_twice sources a b d p q = record { closed = q.closed ∙ p.closed; left_open = q.left_open ∙ p.left_open; left = q.left ∙ p.left }
 
 module _ (c : Circuit) (f g : Fault) where
-  -- a split that is right for the simulation is so for the splits under way
+  -- a split that is right for the simulation is right for the splits under way
   pub right_here : (sim : PairSim) (frames : List Frame) (source : ℕ) → IsUnderWay c f g sim frames → IsRightAt sim.circuit sim.f sim.g (Split source) sim.cube → IsRightAt c f g (Split source) (tried_cube frames)
   right_here sim frames source under_way right = subst (λ (s : PairSim). IsRightAt s.circuit s.f s.g (Split source) s.cube) under_way.stands right
 
@@ -150,7 +150,7 @@ module _ (c : Circuit) (f g : Fault) where
 
 -- ---- the way up from a tree
 
--- The tree stands for the tree and the splits that there were at first.
+-- The splits that are left and the tree have all leaves of the first splits and the first tree.
 pub record ClimbsFrom (c : Circuit) (f g : Fault) (first : List Token) (start : List Frame) (sim : PairSim) (frames : List Frame) (tree : List Token) : Type 0 where
   pub under_way : IsUnderWay c f g sim frames
   pub right : IsSubtree c f g (tried_cube frames) tree

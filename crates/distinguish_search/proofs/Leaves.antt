@@ -22,7 +22,7 @@ use Rattle.distinguish_search.specs.End.{leaf_token}
 use Rattle.distinguish_search.specs.Searched.{IsSearched}
 use Rattle.distinguish_search.specs.Frames.{IsUnderWay, is_open_leaf, open_leaves, closed_in, open_in, SplitsOn, GoesOn, IsWholeTree}
 
--- The search is under way with so many closed leaves, and no leaf is open as long as one more may be closed.
+-- The search is under way with `closed` closed leaves, at most `leaves`, and a leaf is open only if they are as many.
 pub record IsInBudget (c : Circuit) (f g : Fault) (leaves closed : ℕ) (sim : PairSim) (frames : List Frame) : Type 0 where
   pub under_way : IsUnderWay c f g sim frames
   pub counted : closed_in frames ≡ closed
@@ -64,7 +64,7 @@ open_counted (Rest ∷ tokens) e = omega (arith, sum_by-cons (λ token. cond (is
 
 -- ---- one leaf more
 
--- This is the number of closed leaves, one more unless the limit is reached, and only then a leaf is open.
+-- `now` closed leaves are counted, at most `leaves`, and a leaf is open only if they are as many.
 record IsCounted (leaves now closed_total open_total : ℕ) : Type 0 where
   counted : closed_total ≡ now
   few : now ≤ leaves

@@ -29,7 +29,7 @@ highest_low levels bound from (line ∷ lines) h low = highest_low levels bound 
 
 -- ---- the first gates of an order
 
--- The sources and the first gates of an order have their levels, and none is higher than gates are set.
+-- The sources and the first `i` gates of the order have their levels, and no level is above `i`.
 pub record LevelsSoFar (c : Circuit) (order : List ℕ) (i : ℕ) (levels : List ℕ) : Type 0 where
   pub whole : length levels ≡ line_count c
   pub low : (line : ℕ) → level_at levels line ≤ i
@@ -58,7 +58,7 @@ module _ (c : Circuit) (w : IsCircuit c) (order : List ℕ) (is : IsOrder c orde
     range : (c.sources ≤ here) × (here < line_count c)
     range = order_only c (fits_from c w) order is i h
 
-    -- what the gates up to this one read is set before it
+    -- none of the first gates, up to this one, reads this one's line
     set_before : (reader pin : ℕ) → Contains (take (i + 1) order) reader → Feeds c pin reader → pin ≢ here
     set_before reader pin (k, within, there) feeds same =
         let cut = length-take (i + 1) order in

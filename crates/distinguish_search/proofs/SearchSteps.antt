@@ -1,4 +1,4 @@
--- One turn of the search: a descent to the end of a way, and a climb from a leaf there.
+-- One turn of the search: a descent, and a climb from the leaf at its end.
 use Rattle.std.proofs.Common.{◌≡◌, ℕ, ◌+◌, List, [], ◌∷◌, length, get_or, eqb-true, eq-eqb, refl, sym, ◌∙◌, subst}
 use Rattle.std.specs.Prelude.{Bool, true, false, ◌==◌, Option, None, Some, if◌then◌else◌}
 use Rattle.std.specs.List.{list_any}
@@ -31,7 +31,7 @@ more_else closed leaves now same e = let t : (closed == leaves) ≡ true = eq-eq
 
 module _ (c : Circuit) (f g : Fault) (leaves closed : ℕ) (sim : PairSim) (start : List Frame) (budget : IsInBudget c f g leaves closed sim start)
     (new : PairSim) (stack : List Frame) (way : IsUnderWay sim.circuit sim.f sim.g new stack) where
-  -- the simulation's circuit and faults are those of the search, before the descent and behind it
+  -- the simulation's circuit and faults are those of the search, before and after the descent
   was : sim ≡ pair_sim c f g (tried_cube start)
   was = budget.under_way.stands
 

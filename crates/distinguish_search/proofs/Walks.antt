@@ -56,7 +56,7 @@ module _ (c : Circuit) (f g : Fault) (cube : Cube) where
         };
       }
 
-  -- one place more
+  -- one more place is decided
   pub decided_more : (start place : ℕ) (pairs : PairSet) → IsCircuit c → AreDecided c f g cube start place → IsPart c f g cube (λ sets. position_pairs c f g sets (get_or (reached_positions c f g) place 0)) pairs
       → (only_equal pairs || only_unequal pairs) ≡ true → AreDecided c f g cube start (place + 1)
   decided_more start place pairs w so_far part e k from below sets are = elim (cases_lt k place) [
@@ -68,7 +68,7 @@ module _ (c : Circuit) (f g : Fault) (cube : Cube) where
         (sym (ap (λ s. only_equal s || only_unequal s) (part_is c f g cube (λ sets. position_pairs c f g sets at) pairs sets w part are)) ∙ e)
   ]
 
-  -- of an undecided cube some reached position isn't decided
+  -- some reached position of an undecided cube isn't decided
   pub not_all_decided : (middle : ℕ) → IsState c f g cube Undecided → AreDecided c f g cube middle (length (reached_positions c f g)) → AreDecided c f g cube 0 middle → ⊥
   not_all_decided middle state late early =
       let sets = state.sets in
@@ -94,7 +94,7 @@ module _ (c : Circuit) (f g : Fault) (cube : Cube) where
   abbrev pub NoneSeveral : ℕ → List ℕ → ℕ → Type 0
   NoneSeveral line pins n = (sets : List PairSet) → ArePairSets c f g cube sets → (k : ℕ) → k < n → has_several (pin_set f g sets line k (get_or pins k 0)) ≡ false
 
-  -- some pin of an open line does
+  -- some pin of an open line's gate sees several pairs
   pub some_several : (line : ℕ) → IsLineOpen c f g cube line → c.sources ≤ line → NoneSeveral line (pins_of c line) (length (pins_of c line)) → ⊥
   unfolding line_pairs
   some_several line here above none =
@@ -112,7 +112,7 @@ module _ (c : Circuit) (f g : Fault) (cube : Cube) where
       let driven = several_before (stuck_stem f line) (stuck_stem g line) (option_map_or (λ (gate : Gate). gate_pairs gate.kind (seen_pairs f g sets line gate.pins)) (gate_at c line) (source_pairs cube line)) (subst (λ s. has_several s ≡ true) is here.several) in
       no_single (gate_pairs gate.0.kind seen) (subst (λ o. has_several (option_map_or (λ (gate : Gate). gate_pairs gate.kind (seen_pairs f g sets line gate.pins)) o (source_pairs cube line)) ≡ true) gate.1 driven) (single_value (gate_value gate.0.kind) seen all)
 
-  -- a pin that sees several pairs reads an open line, and one that doesn't is passed
+  -- a pin that sees several pairs reads an open line, and any other is passed over
   pub pin_found : (line pin : ℕ) (pins : List ℕ) (pairs : PairSet) → IsCircuit c → IsLineOpen c f g cube line → pins ≡ pins_of c line → pin < length pins
       → IsPart c f g cube (λ sets. pin_set f g sets line pin (get_or pins pin 0)) pairs → has_several pairs ≡ true → Feeds c (get_or pins pin 0) line × IsLineOpen c f g cube (get_or pins pin 0)
   pin_found line pin pins pairs w here same within part e =

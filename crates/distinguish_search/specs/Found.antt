@@ -7,7 +7,8 @@ use Rattle.pair_sets.specs.Tree.{IsCovering, IsSpending}
 use Rattle.distinguish_search.specs.declared.found.Found.{Found}
 use Rattle.distinguish_search.specs.declared.found.Found.TheVariants.{Vector, Covered, Spent}
 
--- The vector separates the faults. A covered tree has no open leaf, and at most so many closed ones; a spent one has an open leaf, and just so many closed ones.
+-- The vector separates the faults. A covered tree is one of the two faults without an open leaf, and with at most
+-- `leaves` closed ones; a spent one is one of the two faults with an open leaf, and with exactly `leaves` closed ones.
 abbrev pub IsFound : Circuit → Fault → Fault → ℕ → Found → Type 0
 IsFound c f g leaves (Vector v) = Separates c v f g
 IsFound c f g leaves (Covered tree) = IsCovering c f g leaves tree

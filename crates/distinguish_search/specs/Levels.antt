@@ -2,11 +2,11 @@
 use Rattle.std.specs.Prelude.{◌≡◌, ℕ, ◌+◌, ◌<◌, ◌≤◌, List, fold, length, max, slice_index_or}
 use Rattle.net_model.specs.Circuit.{Circuit, line_count, pins_of}
 
--- the level of a line; 0 for what is no line
+-- the level of a line, or 0 for what is no line
 abbrev pub level_at : List ℕ → ℕ → ℕ
 level_at levels line = slice_index_or levels line 0
 
--- the highest level of these lines; 0 where there are none
+-- the highest level of these lines, or 0 if there are none
 abbrev pub highest_level : List ℕ → List ℕ → ℕ
 highest_level levels lines = fold (λ highest line. max highest (level_at levels line)) 0 lines
 

@@ -1,4 +1,4 @@
-//! Up from a finished tree, half by half, to a split of which the other half is left.
+//! The way up from a finished tree to the next split whose other half is left.
 
 ghost use Rattle.std.specs.Prelude.{◌≡◌, ◌∷◌, ◌++◌, IfOk, if◌then◌else◌};
 ghost use Rattle.pair_sets.specs.declared.tree.Token.TheVariants.{Split};
@@ -11,8 +11,9 @@ use crate::stack::Stack;
 use pair_sets::{PairSim, Token, Tree};
 use std::alloc::{AllocError, Global};
 
-/// Finishes the tree of a cube, and with it each split of which it is the second half. It gives the whole tree, or
-/// begins the second half of the split of which it finishes the first.
+/// Finishes the cube of the simulation with its tree `tree`, and with it each split whose second half it completes.
+/// Returns the whole tree if no split is left. Else it begins the second half of the split whose first half is
+/// finished, and returns none.
 pub(crate) fn climb(
     alloc: Global,
     sim: &mut PairSim,
@@ -51,7 +52,7 @@ pub(crate) fn climb(
     Ok(Some(tree))
 }
 
-// The tree of a split, from the trees of its source at a bit and at the other one.
+// Returns the tree of a split of `source`, from its tree `here` at `bit` and its tree `other` at the other bit.
 fn joined(
     alloc: Global,
     source: u32,

@@ -1,4 +1,4 @@
-//! The search, depth first.
+//! `search_with`, the search depth first: one run, and a second one if the first is spent.
 
 ghost use Rattle.std.specs.Prelude.{◌≡◌, ◌≤◌, ◌∷◌, [], IfOk, if◌then◌else◌};
 ghost use Rattle.std.specs.List.{list_any};
@@ -19,13 +19,16 @@ use net_model::Fault;
 use pair_sets::{PairSim, Token, Tree};
 use std::alloc::{AllocError, Global};
 
-/// Searches the cubes of all vectors for one every vector of which separates two faults of the simulation's circuit. It
-/// splits undecided cubes by sources that can still decide them. No more leaves are closed than `leaves`, which is 1 or
-/// more: with so many the cubes that are left stay open. Where a first run spends them, a second one has as many again,
-/// and weighs the pins of its walks otherwise; what it finds is what is found.
+/// Searches for a cube whose vectors all separate faults `f` and `g` of the simulation's circuit. As in PODEM, it
+/// splits undecided cubes only by sources that can still decide them, found by walks back from reached positions. It
+/// closes at most `leaves` leaves, 1 or more; the cubes that are then left stay open. If a first run spends the leaves,
+/// a second run has as many again and weighs the pins of its walks differently, and its result is returned. Returns
+/// `Covered` only if the tree is right for the faults and has no open leaf and at most `leaves` closed ones, and
+/// `Spent` only if the tree is right for the faults and has an open leaf and exactly `leaves` closed ones.
 ///
-/// Each run restarts the simulation, whatever faults and cube it stands at, so one simulation serves every search in a
-/// circuit. The stack of a run is in memory from `alloc`, and grows by a frame for each source that is fixed.
+/// Each run restarts the simulation, whatever its faults and its cube are, so one simulation serves every search in a
+/// circuit. The stack of a run is in memory from `alloc`, and grows by a frame for each source that is fixed. After an
+/// error, too, the simulation is of the same circuit and of these two faults, under some cube.
 pub fn search_with(
     alloc: Global,
     sim: &mut PairSim,
@@ -40,7 +43,7 @@ pub fn search_with(
     ensures found { IfOk result (IsSearched sim.old.circuit f.now g.now leaves) }
     ensures circuit { sim.new.circuit ≡ sim.old.circuit }
 
-    // Whatever is answered, the simulation is of the two faults, under some cube.
+    // Whatever is returned, the simulation is of the two faults, under some cube.
     ensures faults { sim.new ≡ pair_sim sim.old.circuit f.now g.now sim.new.cube }
 {
     let by_bit = Rule {
@@ -58,7 +61,7 @@ pub fn search_with(
     }
 }
 
-// One run of the search, with walks by a rule.
+// Does one run of the search, with walks by `rule`.
 fn run(
     alloc: Global,
     sim: &mut PairSim,
@@ -79,7 +82,7 @@ fn run(
     go_through(alloc, sim, &mut stack, rule, leaves)
 }
 
-// Goes through the cubes of all vectors, with a stack that is empty.
+// Searches the cube of all vectors, with an empty stack.
 fn go_through(
     alloc: Global,
     sim: &mut PairSim,
@@ -115,7 +118,7 @@ fn go_through(
     }
 }
 
-// A tree of one leaf.
+// Returns a tree of one leaf, which is open if `full` holds, else closed.
 fn leaf(alloc: Global, full: bool) -> Result<Tree, AllocError>
     ensures { IfOk result (λ tree. tree ≡ leaf_token full ∷ []) }
 {
@@ -125,7 +128,7 @@ fn leaf(alloc: Global, full: bool) -> Result<Tree, AllocError>
     Ok(tree)
 }
 
-// A whole tree is spent where it has an open leaf, else covered.
+// Returns a whole tree as spent if it has an open leaf, else as covered.
 fn finished(tree: Tree) -> Searched
     ensures { result ≡ (if list_any is_open_leaf tree then Searched.Spent tree else Searched.Covered tree) }
 {
@@ -136,7 +139,7 @@ fn finished(tree: Tree) -> Searched
     }
 }
 
-// Whether some leaf is open.
+// Returns whether some leaf is open.
 fn has_open(tokens: &[Token]) -> bool
     ensures { result ≡ list_any is_open_leaf tokens.now }
 {

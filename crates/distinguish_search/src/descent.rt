@@ -1,4 +1,4 @@
-//! Down from a cube, split by split, to one that is decided.
+//! The way down from a cube, split by split, to a decided one.
 
 ghost use Rattle.std.specs.Prelude.{◌≡◌, IfOk};
 ghost use Rattle.pair_sets.specs.PairSim.{with_cube};
@@ -13,8 +13,8 @@ use crate::walk::choose;
 use pair_sets::{PairSim, PairState};
 use std::alloc::AllocError;
 
-/// Splits the cube, and then a half of it, and so on, until it is decided. Where no leaf may be closed any more (`full`)
-/// nothing is split.
+/// Splits the cube, then a half of it, and so on, until it is decided. If no further leaf may be closed (`full`), it
+/// splits nothing.
 pub(crate) fn descend(
     sim: &mut PairSim,
     stack: &mut Stack,

@@ -1,6 +1,6 @@
-//! Where a descent ends.
+//! How a descent ends.
 
-/// The cube at the end of a descent: a leaf, or one every vector of which separates the faults.
+/// What the cube at the end of a descent is: a leaf, or one whose vectors all separate the faults (`Apart`).
 #[derive(Clone, Copy)]
 pub(crate) enum End {
     Leaf,

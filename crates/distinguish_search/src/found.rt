@@ -3,8 +3,8 @@
 use net_model::Vector;
 use pair_sets::Tree;
 
-/// A vector that separates the faults; a tree of cubes that are all closed; or a tree in which some cube is left open,
-/// with as many closed ones as the limit allows.
+/// `Vector`: a vector that separates the faults. `Covered`: a tree whose leaves are all closed. `Spent`: a tree with an
+/// open leaf, and with as many closed ones as the limit allows.
 #[derive(Drop)]
 pub enum Found {
     Vector(Vector),

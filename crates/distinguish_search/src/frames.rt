@@ -2,7 +2,7 @@
 
 use pair_sets::Tree;
 
-/// A split: its source, the bit that is tried, the tree of the other bit once it is finished, and the place of the
+/// A split: its source, the bit that is tried, the tree of the other bit once that is finished, and the place of the
 /// reached position that asked for the split.
 #[derive(Drop)]
 pub(crate) struct Frame {

@@ -8,7 +8,7 @@ use std::alloc::{AllocError, Global};
 use std::marker::Model;
 
 /// The level of each line of a circuit: 0 for a source, and for a gate one more than the highest level of its pins.
-/// They are made once for a circuit, and serve every search in it.
+/// They are computed once for a circuit, and serve every search in it.
 #[derive(Drop)]
 pub struct Levels {
     levels: Vec<u32>,
@@ -23,7 +23,7 @@ impl Model for Levels {
 }
 
 impl Levels {
-    /// The levels of a circuit's lines, from the sources onward.
+    /// Returns the levels of the lines of `circuit`.
     pub fn new(alloc: Global, circuit: &Circuit) -> Result<Levels, AllocError>
         ensures { IfOk result (AreLevels circuit.now) }
     {
@@ -35,7 +35,7 @@ impl Levels {
         Ok(Levels { levels })
     }
 
-    /// The level of a line; 0 for what is no line of the circuit.
+    /// Returns the level of `line`, or 0 if it is no line of the circuit.
     pub(crate) fn level(&self, line: u32) -> u32
         ensures { result ≡ level_at self.now line }
     {
@@ -46,7 +46,7 @@ impl Levels {
     }
 }
 
-// The highest level of these lines; 0 where there are none.
+// Returns the highest level of `lines`, or 0 if there are none.
 fn highest_level(levels: &[u32], lines: &[u32]) -> u32
     requires { All (λ line. line < length levels.now) lines.now }
     ensures { result ≡ highest_level levels.now lines.now }

@@ -1,4 +1,4 @@
-//! The search for one pair of faults.
+//! `search`, the search for one pair of faults, with a simulation and levels of its own.
 
 ghost use Rattle.std.specs.Prelude.{◌≡◌, ◌≤◌, IfOk, length};
 ghost use Rattle.net_model.specs.Fault.{IsFaultOf};
@@ -13,8 +13,10 @@ use net_model::{Bits, Circuit, Fault, Vector};
 use pair_sets::PairSim;
 use std::alloc::{AllocError, Global};
 
-/// Searches for a vector that separates two faults of a circuit, with a simulation and levels of its own. No more leaves
-/// are closed than `leaves`, which is 1 or more.
+/// Searches for a vector that separates faults `f` and `g` of `circuit`, with a simulation and levels of its own. It
+/// closes at most `leaves` leaves, 1 or more. Returns `Covered` only if the tree is right for the faults and has no
+/// open leaf and at most `leaves` closed ones, and `Spent` only if the tree is right for the faults and has an open
+/// leaf and exactly `leaves` closed ones.
 pub fn search(
     alloc: Global,
     circuit: &Circuit,
@@ -36,7 +38,7 @@ pub fn search(
     }
 }
 
-// A vector of a cube.
+// Returns a vector of `cube`, with 0 at each free source.
 fn vector_of(alloc: Global, cube: &[Option<bool>]) -> Result<Vector, AllocError>
     ensures width { IfOk result (λ v. length v ≡ length cube.now) }
     ensures bits { IfOk result (HasBits cube.now) }

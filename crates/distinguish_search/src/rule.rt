@@ -1,10 +1,10 @@
-//! Which of the pins that see several pairs a walk goes through.
+//! Which pin a walk goes through, of those that see several pairs.
 
 use crate::levels::Levels;
 use net_model::Kind;
 use pair_sets::PairSet;
 
-/// How well a pin serves: what comes first decides, and what comes after it only among those that are alike.
+/// How well a pin serves. `first` decides; if it is equal, `second` does, and if that is equal too, `third`.
 #[derive(Clone, Copy)]
 pub(crate) struct Weight {
     first: bool,
@@ -13,12 +13,12 @@ pub(crate) struct Weight {
 }
 
 impl Weight {
-    /// The least weight.
+    /// Returns the least weight.
     pub(crate) fn least() -> Weight {
         weight_of(false, false, 0)
     }
 
-    /// Whether this weight is more than another.
+    /// Returns whether this weight is more than `other`.
     pub(crate) fn is_heavier(&self, other: Weight) -> bool {
         if self.first != other.first {
             return self.first;
@@ -30,9 +30,9 @@ impl Weight {
     }
 }
 
-/// A rule by which pins are weighed. At first one that may have the asked bit goes before one whose pairs aren't only
-/// equal, and among those that are alike the level of the line decides. Where differences go first, a pin whose pairs
-/// aren't only equal goes before one that may have the bit, and the first pin among those that are alike.
+/// A rule by which pins are weighed. A pin that may have the asked bit goes first, then one whose pairs aren't all
+/// equal, and then the level of its line decides. If `differences_first`, a pin whose pairs aren't all equal goes
+/// first, then one that may have the asked bit, and then the first pin.
 #[derive(Clone, Copy)]
 pub(crate) struct Rule<'a> {
     pub(crate) levels: &'a Levels,
@@ -40,8 +40,8 @@ pub(crate) struct Rule<'a> {
 }
 
 impl<'a> Rule<'a> {
-    /// The weight of a pin of a gate of this kind: it sees these pairs of the line that it reads, and the bit is asked
-    /// of it. The heaviest pin is the one to go through.
+    /// Returns the weight of a pin of a gate of kind `kind` that reads line `read`, sees `pairs` of it, and is asked
+    /// for `bit`. The walk goes through the heaviest pin.
     pub(crate) fn weight(&self, kind: Kind, read: u32, pairs: PairSet, bit: bool) -> Weight {
         let has = pairs.has(bit, bit);
         let differs = !pairs.only_equal();
@@ -57,7 +57,6 @@ impl<'a> Rule<'a> {
     }
 }
 
-// A weight in which the first of these goes before the second, and that before the third.
 fn weight_of(first: bool, second: bool, third: u32) -> Weight {
     Weight {
         first,
@@ -66,8 +65,8 @@ fn weight_of(first: bool, second: bool, third: u32) -> Weight {
     }
 }
 
-// Whether one pin with the bit is enough for a gate of this kind, so that the line nearest to the sources is sought;
-// where all pins need the bit, the one that is farthest.
+// Returns whether the line nearest to the sources is best for a gate of kind `kind`. It is, unless all pins of the gate
+// need `bit`; then the farthest line is best.
 fn takes_lowest(kind: Kind, bit: bool) -> bool {
     match kind {
         Kind::And | Kind::Nand => !bit,

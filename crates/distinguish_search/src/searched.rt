@@ -2,9 +2,9 @@
 
 use pair_sets::Tree;
 
-/// A cube, every vector of which separates the faults: a bit for each source that it fixes, and none for one that is
-/// free; a tree of cubes that are all closed; or a tree in which some cube is left open, with as many closed ones as
-/// the limit allows.
+/// `Apart`: a cube whose vectors all separate the faults, with a bit for each source that it fixes and none for a free
+/// one. `Covered`: a tree whose leaves are all closed. `Spent`: a tree with an open leaf, and with as many closed ones
+/// as the limit allows.
 #[derive(Drop)]
 pub enum Searched {
     Apart(Vec<Option<bool>>),

@@ -8,7 +8,7 @@ use crate::frames::Frame;
 use std::alloc::{AllocError, Global};
 use std::marker::Model;
 
-/// The splits that are under way, each at a half of the one before.
+/// The splits that are under way, each within a half of the one before.
 #[derive(Drop)]
 pub(crate) struct Stack {
     frames: Vec<Frame>,
@@ -45,7 +45,7 @@ impl Stack {
         Ok(())
     }
 
-    /// The place of the reached position that asked for the last split; the first place where there is none.
+    /// Returns the place of the reached position that asked for the last split, or 0 if there is no split.
     pub(crate) fn place(&self) -> usize
         ensures { result ≡ last_place self.now }
     {
@@ -55,7 +55,7 @@ impl Stack {
         }
     }
 
-    /// The cube of the bits that are tried: a bit for each source that is fixed, and none for one that is free.
+    /// Returns the cube of the bits that are tried: a bit for each source that is fixed, and none for one that is free.
     pub(crate) fn cube(&self, alloc: Global, sources: u32) -> Result<Vec<Option<bool>>, AllocError>
         requires { FixesOnce sources (tried_cube self.now) }
         ensures width { IfOk result (λ cube. length cube.items ≡ sources) }
@@ -69,7 +69,7 @@ impl Stack {
     }
 }
 
-// The cube of all vectors.
+// Returns the cube of all vectors.
 fn free_cube(alloc: Global, sources: u32) -> Result<Vec<Option<bool>>, AllocError>
     ensures { IfOk result (λ cube. cube.items ≡ replicate sources None) }
 {

@@ -1,4 +1,4 @@
-//! One step of a walk back: from an open line to an open one that its gate reads.
+//! One step of a walk back: from an open line to an open line that its gate reads.
 
 ghost use Rattle.std.specs.Prelude.{◌≡◌, ◌<◌, ◌≤◌, length};
 ghost use Rattle.net_model.specs.Circuit.{Feeds, pins_of};
@@ -16,7 +16,7 @@ pub(crate) struct Objective {
     pub(crate) bit: bool,
 }
 
-/// A step from a line that a gate drives.
+/// Returns an open line that the gate of the line of `from` reads, and the bit to ask of it.
 pub(crate) fn step_back(sim: &PairSim, rule: Rule, from: Objective) -> Objective
     requires gate { sim.now.circuit.sources ≤ from.line }
     requires open { IsLineOpen sim.now.circuit sim.now.f sim.now.g sim.now.cube from.line }
@@ -35,7 +35,8 @@ pub(crate) fn step_back(sim: &PairSim, rule: Rule, from: Objective) -> Objective
     }
 }
 
-// From a multiplexer through its first pin where that is open, else through the data pin that it shows.
+// Steps back from a multiplexer: through its first pin if that sees several pairs, else through the data pin that it
+// selects if that does, else through another pin that does.
 fn chosen_pin(sim: &PairSim, rule: Rule, line: u32, bit: bool) -> Objective
     requires gate { sim.now.circuit.sources ≤ line }
     requires open { IsLineOpen sim.now.circuit sim.now.f sim.now.g sim.now.cube line }
@@ -66,15 +67,15 @@ fn chosen_pin(sim: &PairSim, rule: Rule, line: u32, bit: bool) -> Objective
     }
 }
 
-// The data pin that a first pin with one pair shows.
+// Returns the data pin that a first pin with one pair selects.
 fn shown_pin(select: PairSet) -> u32
     ensures { result < 3 }
 {
     if select.has(true, true) { 2 } else { 1 }
 }
 
-// A line that the gate of an open line reads, and of which the pin sees two pairs or more; where there are several such
-// pins, the heaviest by the rule, and the first among those.
+// Returns a line that the gate of the open line `line` reads by a pin that sees two pairs or more: by the heaviest such
+// pin by `rule`, and by the first of these if there are several.
 fn open_pin(sim: &PairSim, rule: Rule, kind: Kind, line: u32, bit: bool) -> u32
     requires gate { sim.now.circuit.sources ≤ line }
     requires open { IsLineOpen sim.now.circuit sim.now.f sim.now.g sim.now.cube line }
@@ -100,7 +101,8 @@ fn open_pin(sim: &PairSim, rule: Rule, kind: Kind, line: u32, bit: bool) -> u32
     }
 }
 
-/// The bit to ask of a line with these pairs.
+/// Returns the bit to ask of a line with `pairs`: if it has exactly one equal pair, the opposite of that pair's bit;
+/// else `bit` if it has only equal pairs, and else `passing`.
 pub(crate) fn asked_bit(pairs: PairSet, passing: bool, bit: bool) -> bool
     ensures { result ≡ asked_bit pairs passing bit }
 {
@@ -111,7 +113,8 @@ pub(crate) fn asked_bit(pairs: PairSet, passing: bool, bit: bool) -> bool
     if pairs.only_equal() { bit } else { passing }
 }
 
-// The bit of a gate of this kind that lets a difference pass.
+// Returns the bit that a gate of kind `kind` has if it lets a difference at a pin pass, or `bit` if its kind has no
+// such bit.
 fn passing_bit(kind: Kind, bit: bool) -> bool
     ensures { result ≡ passing_bit kind bit }
 {

@@ -1,4 +1,5 @@
-//! From a reached position that is undecided back to a free source that can still decide it.
+//! Which source a split fixes, and at which bit first: the walk from an undecided reached position back to a free
+//! source that can still decide it.
 
 ghost use Rattle.std.specs.Prelude.{◌≤◌, MatchOption, length};
 ghost use Rattle.distinguish_search.specs.Open.{IsPositionOpen, AreDecided};
@@ -20,8 +21,8 @@ pub(crate) struct SourceChoice {
     pub(crate) place: usize,
 }
 
-/// A source by which an undecided cube can be split. It is sought from the reached positions at `from` and behind it
-/// first: those before it are most often decided.
+/// Returns a source by which the undecided cube can be split. It tries the reached positions at place `from` and after
+/// it first: those before it are most often decided.
 pub(crate) fn choose(sim: &PairSim, rule: Rule, from: usize) -> SourceChoice
     requires { IsState sim.now.circuit sim.now.f sim.now.g sim.now.cube Undecided }
     ensures { IsRightAt sim.now.circuit sim.now.f sim.now.g (Split result.source) sim.now.cube }
@@ -47,7 +48,7 @@ pub(crate) fn choose(sim: &PairSim, rule: Rule, from: usize) -> SourceChoice
     unreachable!()
 }
 
-// The place of a reached position at which the faults may answer alike, and may answer differently.
+// Returns the place of a reached position at which the faults may answer alike and may answer differently.
 fn open_place(sim: &PairSim, from: usize) -> usize
     requires { IsState sim.now.circuit sim.now.f sim.now.g sim.now.cube Undecided }
     ensures { IsPositionOpen sim.now.circuit sim.now.f sim.now.g sim.now.cube result }
@@ -63,7 +64,7 @@ fn open_place(sim: &PairSim, from: usize) -> usize
     }
 }
 
-// The first such place in a range, if there is one.
+// Returns the first such place at `from` or after it and before `end`, if there is one.
 fn first_open(sim: &PairSim, from: usize, end: usize) -> Option<usize>
     requires { end ≤ length (reached_positions sim.now.circuit sim.now.f sim.now.g) }
     ensures { MatchOption result (AreDecided sim.now.circuit sim.now.f sim.now.g sim.now.cube from end) (IsPositionOpen sim.now.circuit sim.now.f sim.now.g sim.now.cube) }

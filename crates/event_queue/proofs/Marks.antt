@@ -1,4 +1,4 @@
--- The marks that words have, and sets of them.
+-- The marks that words have, and sets of marks.
 use Rattle.std.proofs.Common.{◌≡◌, ◌≢◌, ℕ, ◌+◌, ◌*◌, ◌/◌, ◌%◌, ◌^◌, ◌<◌, ◌≤◌, List, length, get_or, set, sym, ◌∙◌, ap, arith, w64, inl, inr}
 use Rattle.std.specs.Prelude.{Bool, true, false, bit_and, bit_or}
 use Rattle.std.specs.Int.{bit_not, trailing_zeros}
@@ -13,7 +13,7 @@ use Rattle.event_queue.proofs.Words.{AreNone, inserted, inserted_others, lowest_
 pub marks_count : (count : ℕ) (words : List ℕ) → length (marks_below count words) ≡ count
 marks_count count words = length-map (range_with_len 0 count) (digit_of words) ∙ length-range_with_len 0 count
 
--- where no digit past the count is 1, the marks are the digits
+-- if no digit past the count is 1, the marks are the digits
 pub mark_is : (count : ℕ) (words : List ℕ) → ((n : ℕ) → count ≤ n → digit_of words n ≡ false) → (n : ℕ) → is_pending (marks_below count words) n ≡ digit_of words n
 mark_is count words spare n =
     let long = length-range_with_len 0 count in
@@ -24,7 +24,7 @@ mark_is count words spare n =
 
 -- ---- one number more
 
--- The number is in the second words besides those in the first.
+-- The number is in `more`, besides all those that are in `words`.
 pub record HasOneMore (count number : ℕ) (words more : List ℕ) : Type 0 where
   pub spare : (n : ℕ) → count ≤ n → digit_of more n ≡ false
   pub here : is_pending (marks_below count more) number ≡ true
@@ -47,11 +47,11 @@ one_more count number words word spare below inside read =
 pub none_is : (count : ℕ) (words : List ℕ) → ((n : ℕ) → count ≤ n → digit_of words n ≡ false) → AreNone words → IsEmpty (marks_below count words)
 none_is count words spare none n = mark_is count words spare n ∙ none n
 
--- where no number below one is in the set, its digits are 0
+-- if no number below `from` is in the set, its digits are 0
 pub low_digits : (count : ℕ) (words : List ℕ) (from : ℕ) → ((n : ℕ) → count ≤ n → digit_of words n ≡ false) → ((n : ℕ) → n < from → is_pending (marks_below count words) n ≡ false) → (n : ℕ) → n < from → digit_of words n ≡ false
 low_digits count words from spare none n h = sym (mark_is count words spare n) ∙ none n h
 
--- The number is the lowest in the first words, and the second ones have all others.
+-- The number is the lowest in `words`, and `less` has all others.
 pub record HasOneLess (count lowest : ℕ) (words less : List ℕ) : Type 0 where
   pub spare : (n : ℕ) → count ≤ n → digit_of less n ≡ false
   pub lowest_is : IsLowest (marks_below count words) (marks_below count less) lowest
@@ -86,7 +86,7 @@ pending_within queue n t = elim (cases_lt n (length queue)) [
   | inr past ↦ absurd (false≢true (sym (get_or_past queue n false past) ∙ t))
 ]
 
--- what waits once the lowest is taken waited before, and is higher
+-- what waits after the lowest was taken waited before, and is higher
 pub lowest_left : (old new : List Bool) (low : ℕ) → IsLowest old new low → (n : ℕ) → is_pending new n ≡ true → (low < n) × (is_pending old n ≡ true)
 lowest_left old new low is n t =
     let apart : n ≢ low = λ e. false≢true (sym is.gone ∙ ap (is_pending new) (sym e) ∙ t) in
@@ -98,7 +98,7 @@ lowest_left old new low is n t =
       was,
     )
 
--- what waits is not below a number below which none waits
+-- what waits isn't below `from` if no number below `from` waits
 pub not_before : (queue : List Bool) (from n : ℕ) → ((k : ℕ) → k < from → is_pending queue k ≡ false) → is_pending queue n ≡ true → from ≤ n
 not_before queue from n low t = elim (cases_lt n from) [
   | inl under ↦ absurd (false≢true (sym (low n under) ∙ t))

@@ -58,7 +58,7 @@ all_zero words count e n = in_zero words n (zero_words words count e (n / 64))
 pub small_zeros : (words : List ℕ) (count : ℕ) → words ≡ replicate count 0 → All (λ word. word < 2 ^ 64) words
 small_zeros words count e i d h = omega (arith, get_or_default words i d 0 h, zero_words words count e i)
 
--- a word none of whose numbers is in the set is 0
+-- a word is 0 if none of its numbers is in the set
 zero_word : (words : List ℕ) (at : ℕ) → All (λ word. word < 2 ^ 64) words → ((n : ℕ) → n / 64 ≡ at → digit_of words n ≡ false) → get_or words at 0 ≡ 0
 zero_word words at small none =
     let word = get_or words at 0 in
@@ -114,7 +114,8 @@ fewer_bits word mask h = omega (arith, and_le_l word mask)
 
 -- ---- the lowest number
 
--- the words before one are 0 that are below a place, or below a number below which none is in, or were seen to be 0
+-- the words before one are 0 if they are below `low`, or below a number with no lower number in the set, or were seen
+-- to be 0
 pub words_before : (words : List ℕ) (low from start at : ℕ) → All (λ word. word < 2 ^ 64) words → start ≡ max low (from / 64)
     → ((k : ℕ) → k < low → get_or words k 0 ≡ 0) → ((n : ℕ) → n < from → digit_of words n ≡ false) → ((k : ℕ) → start ≤ k → k < at → get_or words k 0 ≡ 0)
     → (k : ℕ) → k < at → get_or words k 0 ≡ 0

@@ -9,11 +9,11 @@ is_pending marks n = slice_index_or marks n false
 abbrev pub IsEmpty : List Bool → Type 0
 IsEmpty marks = (n : ℕ) → is_pending marks n ≡ false
 
--- The line doesn't wait: none of its places in the order of the lines does.
+-- The line doesn't wait: none of its places in the order of the lines waits.
 abbrev pub IsIdle : List ℕ → List Bool → ℕ → Type 0
 IsIdle order marks line = (place : ℕ) → place < length order → slice_index order place ≡ line → is_pending marks place ≡ false
 
--- The number is the lowest that waited, and all others wait as before.
+-- The number waited and no lower one did; now it doesn't wait, and all others wait as before.
 pub record IsLowest (old new : List Bool) (lowest : ℕ) : Type 0 where
   pub was : is_pending old lowest ≡ true
   pub lower : (n : ℕ) → n < lowest → is_pending old n ≡ false

@@ -16,10 +16,12 @@ digit_of words n = has_digit (slice_index words (n / 64)) (n % 64)
 abbrev pub marks_below : ℕ → List ℕ → List Bool
 marks_below count words = map (digit_of words) (range_with_len 0 count)
 
+-- a mark for each number below the count of the queue
 abbrev pub marks_of : Inside → List Bool
 marks_of a = marks_below a.count a.words.items
 
--- No digit is 1 past the count, and no word other than 0 stands below `low` or from `top` on.
+-- There are fewer than 2^32 numbers, and as many words as they need. No digit past the count is 1, and no word other
+-- than 0 is below `low`, or at `top` or above.
 pub record IsBounded (a : Inside) : Type 0 where
   pub few : a.count < 2 ^ 32
   pub whole : length a.words.items ≡ div_ceil a.count 64

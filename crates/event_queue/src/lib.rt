@@ -1,4 +1,4 @@
-//! Numbers that wait, of which the lowest is taken first.
+//! Numbers that wait; the lowest is taken first.
 #![tactic(auto)]
 
 mod queue;

@@ -1,4 +1,4 @@
-//! A set of numbers of which the lowest is taken first.
+//! `NumberQueue`: numbers below a count, in words of 64 bits; the lowest that waits is taken first.
 
 ghost use Rattle.std.specs.Prelude.{◌≡◌, ◌≢◌, ◌<◌, ◌≤◌, ◌*◌, ◌^◌, ◌⊎◌, ℕ, true, false, length, slice_index, All, Contains, IfOk, MatchOption};
 ghost use Rattle.event_queue.specs.Pending.{is_pending, IsEmpty, IsLowest};
@@ -6,7 +6,7 @@ ghost use Rattle.event_queue.specs.Pending.{is_pending, IsEmpty, IsLowest};
 use std::alloc::{AllocError, Global};
 use std::marker::Model;
 
-/// The numbers below a count, of which some wait.
+/// A set of numbers that wait, all below a count.
 #[derive(Drop)]
 pub struct NumberQueue {
     words: Vec<u64>,
@@ -28,7 +28,7 @@ impl Model for NumberQueue {
 }
 
 impl NumberQueue {
-    /// None of the numbers below a count waits. No later call takes memory.
+    /// Returns a queue of the numbers below `count` in which none waits. No later call takes memory.
     pub fn new(alloc: Global, count: usize) -> Result<NumberQueue, AllocError>
         requires { count < 2 ^ 32 }
         ensures none { IfOk result (λ queue. IsEmpty queue) }
@@ -42,7 +42,8 @@ impl NumberQueue {
         })
     }
 
-    /// All numbers below a count wait. No later call takes memory. For tests and for callers from outside.
+    /// Returns a queue of the numbers below `count` in which all wait. No later call takes memory. This is for tests
+    /// and for callers from outside.
     pub fn all(alloc: Global, count: usize) -> Result<NumberQueue, AllocError>
         requires { count < 2 ^ 32 }
         ensures all { IfOk result (λ queue. (n : ℕ) → n < count → is_pending queue n ≡ true) }
@@ -55,7 +56,7 @@ impl NumberQueue {
         Ok(queue)
     }
 
-    /// Lets a number wait.
+    /// Makes `number` wait.
     pub fn insert(&mut self, number: u32)
         requires { number < length self.old }
         ensures room { length self.new ≡ length self.old }
@@ -68,7 +69,7 @@ impl NumberQueue {
         self.top = self.top.max(at + 1);
     }
 
-    /// Lets these numbers wait too.
+    /// Makes each of `numbers` wait, besides those that wait already.
     pub fn wake(&mut self, numbers: &[u32])
         requires { All (λ number. number < length self.old) numbers.now }
         ensures room { length self.new ≡ length self.old }
@@ -81,7 +82,8 @@ impl NumberQueue {
         }
     }
 
-    /// Takes the lowest number out, where none below `from` waits.
+    /// Takes out the lowest number that waits and returns it; no number below `from` may wait. Returns none exactly if
+    /// no number waits, and then none waits after the call either.
     pub fn take_lowest(&mut self, from: u32) -> Option<u32>
         requires { (n : ℕ) → n < from → is_pending self.old n ≡ false }
         ensures room { length self.new ≡ length self.old }
@@ -105,7 +107,7 @@ impl NumberQueue {
     }
 }
 
-// The place of the first word from there on that isn't 0, or the end.
+// Returns the place of the first word that isn't 0, starting at place `from`, or `end` if there is none before `end`.
 fn first_word(words: &[u64], from: usize, end: usize) -> usize
     requires { end ≤ length words.now }
     ensures within { result ≤ end }

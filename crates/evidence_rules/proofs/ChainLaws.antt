@@ -48,7 +48,7 @@ module _ (clauses : List Clause) (chain : ChainView) where
   stays_none_at : (n m : ℕ) → n ≤ m → so_far n ≡ None → so_far m ≡ None
   stays_none_at n m le none = let e : n + (m - n) ≡ m = omega arith in ap so_far (sym e) ∙ stays_none n (m - n) none
 
-  -- the rule that is broken where there is no end after so many steps, but was one before
+  -- the rule that is broken if the chain has no end after this many steps, but had one before the last of them
   abbrev pub stop_kind : ℕ → RefusalKind
   stop_kind zero = NoSuchClause
   stop_kind (suc at) = option_map_or (λ step. option_map_or (λ other. NoPivot) (numbered_clause clauses step.1) NoSuchClause) (slice_get chain.steps at) NoSuchClause

@@ -1,4 +1,4 @@
--- A log is refused only where it isn't right, and in one way.
+-- A log is refused only if it isn't right, and in one way.
 use Rattle.std.proofs.Common.{◌≡◌, ◌≢◌, ◌∙◌, ℕ, ◌<◌, ◌≤◌, ◌+◌, ◌⊎◌, inl, inr, true, false, List, [], ◌∷◌, ◌++◌, length, take, get_or, refl, sym, ap, subst, arith}
 use Rattle.std.specs.Prelude.{Bool, Some, slice_get}
 use Rattle.std.proofs.lemmas.Bool.{cases_lt, eqb-true, eq-eqb}
@@ -18,7 +18,7 @@ use Rattle.evidence_rules.specs.LogRefusal.{ChainStops, IsRightEnd, IsRightLog, 
 use Rattle.evidence_rules.proofs.ChainLaws.{stopped_has_no_end, stops_once}
 
 module _ (kind : EvidenceKind) (clauses : List Clause) (log : List ChainView) where
-  -- what is right before a place has the ends of the chains before each earlier place, and the end there
+  -- if the chains before a place have ends, each of them has its end over the ends before it
   part_before : (at later : ℕ) (chain : ChainView) (b : AreRightBefore kind clauses log later) → at < later → slice_get log at ≡ Some chain
       → (log_ends clauses (take at log) ≡ Some (take at b.ends)) × (chain_end (clauses ++ take at b.ends) chain ≡ slice_get b.ends at) × (at < length b.ends)
   part_before at later chain b lower is =
@@ -54,7 +54,7 @@ module _ (kind : EvidenceKind) (clauses : List Clause) (log : List ChainView) wh
       let here : slice_get b.ends at ≡ Some end = sym part.1 ∙ (ap (λ ends. chain_end (clauses ++ ends) e.chain) (sym same) ∙ e.end_is) in
       e.wrong (subst (λ ends. IsRightEnd kind (is_last log at) (clauses ++ ends) e.chain end) (sym same) (b.each at e.chain end e.chain_is here))
 
-  -- two chains at one place are one, over the same clauses
+  -- two chains at one place are the same, over the same clauses
   same_end : (at : ℕ) (chain other : ChainView) (b d : AreRightBefore kind clauses log at) → slice_get log at ≡ Some chain → slice_get log at ≡ Some other
       → chain_end (clauses ++ b.ends) chain ≡ chain_end (clauses ++ d.ends) other
   same_end at chain other b d is too = let chains = same_Some chain other (sym is ∙ too) in let ends = same_before at b.ends d.ends b.are d.are in (λ i. chain_end (clauses ++ ends i) (chains i))
@@ -72,7 +72,7 @@ module _ (kind : EvidenceKind) (clauses : List Clause) (log : List ChainView) wh
   one_end : (at : ℕ) (end other : Clause) → EndsWrong kind clauses log at end → EndsWrong kind clauses log at other → end ≡ other
   one_end at end other e d = same_Some end other (sym e.end_is ∙ (same_end at e.chain d.chain e.before d.before e.chain_is d.chain_is ∙ d.end_is))
 
-  -- two places of which neither is before the other
+  -- two places, neither of them before the other, are the same
   same_place : (at other : ℕ) → (at < other → ⊥) → (other < at → ⊥) → at ≡ other
   same_place at other below above =
       elim (cases_lt at other) [
@@ -102,7 +102,7 @@ module _ (kind : EvidenceKind) (clauses : List Clause) (log : List ChainView) wh
         let same = one_end at end last e (subst (λ n. EndsWrong kind clauses log n last) (sym here) d) in
         is ∙ ((λ i. record { kind = end_refusal kind (is_last log (here i)) (same i); step = here i }) ∙ sym are)
 
-    -- what is right all along isn't refused
+    -- a log that is right from the beginning to the end isn't refused
     not_refused : (refusal : Refusal) → HasRightLength kind limit log → AreRightBefore kind clauses log (length log) → LogRefused kind clauses limit log refusal → ⊥
     not_refused refusal long b (wrong_count many is) = many long
     not_refused refusal long b (at_step at rule too s is) = not_stopped at (length log) rule s b (slice_get_within log at s.chain s.chain_is)

@@ -46,7 +46,7 @@ module _ (bits : List Bool) where
             any_from (literal_bit bits) (resolvent pivot clause other) m.0 (Contains-append_left (clause_without pivot clause) (clause_without (opposite pivot) other) m.0 m.1) m.2
       ]
 
-  -- where there is a clause, the assignment satisfies it
+  -- if there is a clause, the assignment satisfies it
   abbrev IsTrueEnd : Option Clause → Type 0
   IsTrueEnd o = (c : Clause) → o ≡ Some c → is_satisfied_by bits c ≡ true
 

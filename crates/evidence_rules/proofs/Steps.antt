@@ -1,4 +1,4 @@
--- The steps of a chain, where sets of literals stand for its clauses.
+-- The steps of a chain, with sets of literals in place of its clauses.
 use Rattle.std.proofs.Common.{◌≡◌, ◌∙◌, ◌<◌, ◌≤◌, ◌+◌, refl, sym, ap, subst, take, get_or}
 use Rattle.std.specs.Prelude.{ℕ, Bool, true, false, List, length, fold, Option, None, Some, option_and_then, if◌then◌else◌}
 use Rattle.std.proofs.lemmas.Bool.{true_from_ne_false}

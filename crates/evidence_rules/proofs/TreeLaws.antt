@@ -1,4 +1,4 @@
--- A tree is refused only where it isn't right, and in one way.
+-- A tree is refused only if it isn't right, and in one way.
 use Rattle.std.proofs.Common.{◌≡◌, ◌∙◌, ℕ, List, inl, inr, sym, arith}
 use Rattle.std.proofs.lemmas.Bool.{cases_lt}
 use Rattle.net_model.specs.declared.fault.Fault.{Fault}

@@ -7,7 +7,7 @@ pub fn refutation_is_equal()
     ensures { RefutationEqual }
 {}
 
-/// Every chain has an end or stops, none both, and one that stops does so for one rule.
+/// Every chain has an end or stops, never both, and a chain that stops does so for one rule.
 pub fn chain_ends_or_stops()
     ensures either { ChainEndsOrStops }
     ensures not_both { StoppedChainHasNoEnd }

@@ -1,5 +1,5 @@
-//! The rules of evidence: which trees of cubes and which logs of resolutions are right, how a wrong one is refused, and what a
-//! right one shows.
+//! The rules of evidence: which trees of cubes and which logs of resolutions are right, how a wrong one is refused, and
+//! what a right one shows.
 #![tactic(auto)]
 
 mod laws;

@@ -14,7 +14,7 @@ pub enum EvidenceKind {
     Spent,
 }
 
-/// Which rule a token or a chain breaks.
+/// The rule that a token, a chain, or their number breaks.
 #[derive(Clone, Copy, Debug, PartialEq, Eq)]
 pub enum RefusalKind {
     /// No clause has the number that the chain names.
@@ -23,20 +23,21 @@ pub enum RefusalKind {
     NoPivot,
     /// A refutation's last chain doesn't end in the empty clause.
     NotEmpty,
-    /// A chain ends in the empty clause where it may not.
+    /// A chain other than a refutation's last one ends in the empty clause.
     EmptyEarly,
-    /// The chain's clause isn't fresh at its literal.
+    /// A chain of a spent log names no literal at which the clause that it ends in is fresh.
     NotFresh,
-    /// A closed leaf stands at a cube that isn't all same.
+    /// The cube of a closed leaf isn't all same.
     LeafOpen,
-    /// A token is out of place, or the tree isn't whole.
+    /// A split isn't of a relevant free source or its cube is decided, a token comes after the whole tree, or the tree
+    /// ends too early.
     BadTree,
     /// There are too many or too few closed leaves, open leaves or chains.
     WrongCount,
 }
 
-/// A broken rule, and the number of the token or chain that breaks it, counted from 0. For a wrong count it is how many
-/// tokens or chains there are.
+/// A broken rule, and the number of the token or chain that breaks it, counted from 0. For a wrong count, and for a
+/// tree that ends too early, it is how many tokens or chains there are.
 #[derive(Clone, Copy, Debug, PartialEq, Eq)]
 pub struct Refusal {
     pub kind: RefusalKind,
@@ -52,7 +53,7 @@ pub enum CheckFault {
     NoMemory,
 }
 
-/// The answer where the token or chain of this number breaks a rule.
+/// Returns the fault that the token or chain of number `step` breaks the rule `kind`.
 pub fn refused(kind: RefusalKind, step: usize) -> CheckFault
     ensures { result ≡ CheckFault.Refused (record { kind = kind; step = step }) }
 {

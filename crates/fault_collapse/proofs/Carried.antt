@@ -18,7 +18,7 @@ not_all bits k there = list_all_at (λ b. b) bits k false (slice_get_within bits
 some : (bits : List Bool) (k : ℕ) → slice_get bits k ≡ Some true → some_one bits ≡ true
 some bits k there = list_any_at (λ b. b) bits k false (slice_get_within bits k true there) (get_or_from_slice_get bits k true false there)
 
--- a controlling value at one pin decides
+-- a controlling value at one pin decides the fold
 controlled_fold_is : (fold : Fold) (bits : List Bool) (k : ℕ) (bit value : Bool) → slice_get bits k ≡ Some bit → controlled_fold fold bit ≡ Some value → folded_bit fold bits ≡ value
 controlled_fold_is AllOf bits k true value there e = cc
 controlled_fold_is AllOf bits k false value there e = let v : false ≡ value = cc in not_all bits k there ∙ v

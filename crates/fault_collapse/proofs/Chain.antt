@@ -1,4 +1,4 @@
--- Chains of successors: each has a last one, which is equal to the first.
+-- Chains of successors: each has a last fault, which is equal to the first.
 use Rattle.std.proofs.Common.{◌≡◌, ◌∙◌, ℕ, zero, suc, ◌+◌, ◌<◌, ◌≤◌, length, refl, sym, ap, arith, subst}
 use Rattle.std.specs.Prelude.{Bool, Option, None, Some}
 use Rattle.std.specs.Option.{option_map_or}
@@ -40,12 +40,12 @@ module _ (c : Circuit) (w : IsCircuit c) where
   ended-by : (f : Fault) (n : ℕ) (o : Option Fault) → o ≡ None → option_map_or (fault_after c n) o f ≡ f
   ended-by f n o e = rw e refl
 
-  -- a fault without a successor stays
+  -- a fault without a successor stays the same after any number of steps
   ended : (n : ℕ) (f : Fault) → successor c f ≡ None → fault_after c n f ≡ f
   ended zero f e = refl
   ended (suc n) f e = ended-by f n (successor c f) e
 
-  -- a successor is the fault of a stem whose rank is above those of the lines that its gate reads
+  -- a successor is the fault of a stem with a rank above those of the lines that its gate reads
   pub record IsAbove (f next : Fault) : Type 0 where
     pub line : ℕ
     pub value : Bool
@@ -96,7 +96,7 @@ module _ (c : Circuit) (w : IsCircuit c) where
       let higher = w.acyclic.rises line above.line (above.rises line bit refl) in
       absurd (omega (arith, high, higher, w.acyclic.bounded above.line))
 
-  -- no successor is left of a stem after as many steps as there are ranks above it
+  -- after as many steps as there are ranks above it a stem has no successor
   stem_ends : (n line : ℕ) (bit : Bool) → line < line_count c → length c.gates ≤ n + w.acyclic.rank line → successor c (fault_after c n (Stuck (Stem line) bit)) ≡ None
   stem_ends zero line bit inside high = no_next line bit inside high (successor c (Stuck (Stem line) bit)) refl
   stem_ends (suc n) line bit inside high = ends_next n line bit inside high (stem_ends n) (successor c (Stuck (Stem line) bit)) refl

@@ -43,7 +43,7 @@ gate_with c line pin read e = read_at line pin read (gate_at c line) e
 
 -- ---- places
 
--- where the number stands, it is listed
+-- a place at which the number occurs is listed
 Contains-places_from : (x n k : ℕ) (xs : List ℕ) → slice_get xs k ≡ Some x → Contains (places_from x n xs) (n + k)
 Contains-places_from x n k [] e = cc
 Contains-places_from x n zero (y ∷ ys) e =

@@ -1,4 +1,5 @@
--- A fault and its successor are equal: in two steps, from the stem to its sole pin, and from the pin to the stem of its gate.
+-- A fault and its successor are equal, in two steps: from the stem to its sole pin, and from the pin to the stem of its
+-- gate.
 use Rattle.std.proofs.Common.{◌≡◌, ◌∙◌, ℕ, zero, suc, ◌<◌, Bool, true, false, eqb, List, [], ◌∷◌, length, get_or, refl, sym, ap, arith, subst}
 use Rattle.std.specs.Prelude.{Option, None, Some, Contains, slice_get, unwrap_or, ◌&&◌}
 use Rattle.std.specs.Bool.{then_some}
@@ -120,7 +121,7 @@ module _ (c : Circuit) (w : IsCircuit c) (line gate pin : ℕ) (bit : Bool) (ins
       let same : line ≡ read = let s : Some line ≡ Some read = sym reads ∙ there in cc in
       ap (bit_at x) (sym same) ∙ stem_is_stuck
 
-  -- the same is seen where the lines that are read have the same bit
+  -- the same is seen if the lines that are read have the same bit
   same_seen : (reader place read : ℕ) → slice_get (pins_of c reader) place ≡ Some read → (eqb line read ≡ false → bit_at x read ≡ bit_at y read) → (here : Bool) → (eqb gate reader && eqb pin place) ≡ here → bit_at x read ≡ unwrap_or (then_some here bit) (bit_at y read)
   same_seen reader place read there rest true t = stuck_read reader place read there t
   same_seen reader place read there rest false t = rest (other_read reader place read there t (eqb line read) refl)
@@ -164,7 +165,7 @@ stem_equal c w line gate pin bit inside sole v first second wide a b = a.shows �
 -- ---- successors
 
 module _ (c : Circuit) (w : IsCircuit c) where
-  -- the pin that is entered is equal to what it carries
+  -- the fault at the entered pin is equal to its successor
   entered_equal : (line pin : ℕ) (bit : Bool) (next : Fault) → pin < length (pins_of c line) → IsCarried c line bit next → AreEqual c (Stuck (Pin line pin) bit) next
   entered_equal line pin bit next within is =
       let pins : pins_of c line ≡ is.gate.pins = ap (λ o. option_map_or (λ (g : Gate). g.pins) o []) is.drives in

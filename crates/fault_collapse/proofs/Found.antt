@@ -20,7 +20,7 @@ use Rattle.fault_collapse.proofs.Members.{Contains-slice_get}
 use Rattle.fault_collapse.proofs.Steps.{sole_pin, sole_pin_reads}
 
 module _ (c : Circuit) where
-  -- this is the number of a fault in a list of faults, if it has one
+  -- the option is the number of a fault in a list of faults, if the fault is there
   abbrev pub IsFoundIn : List Fault → Fault → Option ℕ → Type 0
   IsFoundIn listed fault found = (number : ℕ) → (found ≡ Some number → slice_get listed number ≡ Some fault) × (slice_get listed number ≡ Some fault → found ≡ Some number)
 
@@ -44,7 +44,7 @@ module _ (c : Circuit) where
 
   -- ---- which gate a fault enters
 
-  -- the gate that a fault enters is a gate
+  -- the gate that a fault enters is one of the circuit's gates
   pub gate_inside : (site : Site) (bit : Bool) (gate : ℕ) → IsFaultOf c (Stuck site bit) → Some gate ≡ entered_gate c site → (c.sources ≤ gate) × (gate < line_count c)
   unfolding entered_gate
   gate_inside (Stem line) bit gate is e =
@@ -69,7 +69,7 @@ module _ (c : Circuit) where
 
   -- ---- one number after another
 
-  -- the first numbers have those of their successors
+  -- the first numbers have the numbers of their successors
   pub record FoundBelow (count : ℕ) (found : List (Option ℕ)) : Type 0 where
     pub whole : length found ≡ count
     pub each : (number : ℕ) (fault : Fault) → number < count → slice_get (faults c) number ≡ Some fault → IsNumberOf c (successor c fault) (get_or found number None)

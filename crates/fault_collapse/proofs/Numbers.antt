@@ -16,7 +16,7 @@ use Rattle.net_model.proofs.Elements.{Contains-flat_map}
 use Rattle.fault_collapse.proofs.Members.{Contains-head, Contains-slice_get, slice_get-Contains}
 
 module _ (c : Circuit) where
-  -- a listed fault is one of the circuit
+  -- a listed fault is one of the circuit's
   pub number_stands : (number : ℕ) (fault : Fault) → slice_get (faults c) number ≡ Some fault → IsFaultOf c fault
   number_stands number fault there = All-contains (IsFaultOf c) (faults c) fault (listed c) (Contains-slice_get (faults c) number fault there)
 

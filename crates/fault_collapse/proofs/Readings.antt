@@ -16,7 +16,7 @@ same_from read other n (line ∷ lines) h =
     let rest = same_from read other (n + 1) lines (λ k l e. subst (λ at. read at l ≡ other at l) (omega arith) (h (suc k) l e)) in
     λ i. here i ∷ rest i
 
--- two ways to read that give the same at each place give the same
+-- two ways to read that agree at each place give the same
 pub same_places : {A : Type 0} (read other : ℕ → ℕ → A) (lines : List ℕ) → ((place line : ℕ) → slice_get lines place ≡ Some line → read place line ≡ other place line) → readings read lines ≡ readings other lines
 unfolding readings
 same_places read other lines h = same_from read other 0 lines (λ k line e. subst (λ at. read at line ≡ other at line) (omega arith) (h k line e))

@@ -32,7 +32,7 @@ module _ (c : Circuit) where
   numbered None number is = absurd is
   numbered (Some fault) number is = (fault, refl, is)
 
--- The stems of the gates from a place of the order on have their roots.
+-- The stems of the gates starting at a place of the order have their roots.
 pub record StemsFrom (c : Circuit) (successors : List (Option ℕ)) (order : List ℕ) (i : ℕ) (roots : List ℕ) : Type 0 where
   pub own : AreOwnRoots c successors roots
   pub stems : (at line : ℕ) (bit : Bool) (number : ℕ) → i ≤ at → slice_get order at ≡ Some line → slice_get (faults c) number ≡ Some (Stuck (Stem line) bit) → IsRootAt c roots number
@@ -74,7 +74,7 @@ module _ (c : Circuit) (w : IsCircuit c) (successors : List (Option ℕ)) (s : A
       let there = slice_get-get_or (faults c) number Free within in
       slice_get_within (faults c) next _ (has_next number next _ there e).there
 
-  -- what following one number leaves
+  -- what holds after one number was followed
   pub record IsFollowed (roots new : List ℕ) (number : ℕ) : Type 0 where
     pub own : AreOwnRoots c successors new
     pub here : IsRootAt c new number

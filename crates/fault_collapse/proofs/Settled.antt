@@ -1,4 +1,4 @@
--- What the forest of a circuit's faults says of them.
+-- What the forest of a circuit's faults says about them.
 use Rattle.std.proofs.Common.{◌≡◌, ◌∙◌, ℕ, ◌+◌, ◌-◌, ◌<◌, ◌≤◌, ◌≢◌, ◌^◌, Bool, true, false, cond, eqb, List, [], ◌∷◌, length, get_or, refl, sym, ap, arith, add-zero, length-append}
 use Rattle.std.specs.Prelude.{IsTrue, ◌↔◌, ◌==◌, Option, Some, slice_get, slice_index, flat_map, filter}
 use Rattle.std.specs.List.{list_any, range_with_len}
@@ -99,7 +99,7 @@ module _ (forest : Forest) (is : AreForestFields forest) (number : ℕ) (within 
           let same = eqb-true (root_of forest k) number e in
           absurd (other (ap (root_of forest) (sym same) ∙ (is.last k inside ∙ same)))
 
-  -- another is none
+  -- a number that isn't its own root is no root
   other_is_none : root_of forest number ≢ number → list_any (λ root. root == number) forest.roots ≡ false
   other_is_none other = list_any_none (λ root. root == number) forest.roots (All-from_get_or (λ root. eqb root number ≡ false) forest.roots 0 (other_root other))
 

@@ -54,7 +54,7 @@ module _ (c : Circuit) (wiring : Wiring) (is : IsWiring c wiring) (line : ℕ) (
       let pin = slice_get-Contains (pins_of c gate) line (is.readers.only line place (first_place one)) in
       only_pin (destinations c line) gate pin.0 (omega (arith, is.fanout line inside, one.0, one.1)) (pin_is_destination c line gate pin.0 pin.1)
 
-  -- without one user there is no such gate
+  -- if the line doesn't have one user, there is no such gate
   pub no_user_gate : (HasOneUser → ⊥) → None ≡ only_gate (destinations c line)
   no_user_gate apart = by (only_gate (destinations c line)) refl
     where

@@ -1,4 +1,4 @@
--- What it takes that a fault has a successor.
+-- What must hold if a fault has a successor.
 use Rattle.std.proofs.Common.{◌≡◌, ℕ, ◌<◌, List, [], ◌∷◌, length, refl, sym, ap, subst}
 use Rattle.std.specs.Prelude.{Bool, Option, None, Some, Contains, slice_get, option_map, option_and_then}
 use Rattle.std.proofs.lemmas.Option.{slice_get_within, slice_get-get_or}

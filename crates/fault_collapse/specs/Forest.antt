@@ -6,7 +6,7 @@ use Rattle.net_model.specs.Circuit.{Circuit, IsCircuit}
 use Rattle.net_model.specs.FaultList.{faults, fault_count}
 use Rattle.net_model.specs.Collapse.{successor, root}
 
--- for each number that of its successor, if it has one, and that of its root
+-- For each number the number of its successor, if it has one, and that of its root.
 pub record Forest : Type 0 where
   pub successors : List (Option ℕ)
   pub roots : List ℕ
@@ -18,17 +18,19 @@ forest_with successors roots = record { successors = successors; roots = roots }
 abbrev pub number_count : Forest → ℕ
 number_count forest = length forest.roots
 
+-- the number of a number's successor, if it has one
 abbrev pub successor_of : Forest → ℕ → Option ℕ
 successor_of forest number = slice_index_or forest.successors number None
 
+-- the number of a number's root
 abbrev pub root_of : Forest → ℕ → ℕ
 root_of forest number = slice_index forest.roots number
 
--- the numbers, but for 0, that are the root of some number
+-- the numbers, except 0, that are the root of some number
 abbrev pub root_numbers : Forest → List ℕ
 root_numbers forest = filter (λ number. list_any (λ root. root == number) forest.roots) (range_with_len 1 (number_count forest - 1))
 
--- ---- the faults behind the numbers
+-- ---- the faults of the numbers
 
 -- The number is that of the fault, or there is neither.
 abbrev pub IsNumberOf : Circuit → Option Fault → Option ℕ → Type 0
@@ -36,7 +38,7 @@ IsNumberOf c None None = ⊤
 IsNumberOf c (Some fault) (Some number) = slice_get (faults c) number ≡ Some fault
 IsNumberOf c _ _ = ⊥
 
--- Each number has the number of its fault's successor.
+-- Each number has the number of its fault's successor, if that fault has one.
 pub record AreSuccessors (c : Circuit) (successors : List (Option ℕ)) : Type 0 where
   pub whole : length successors ≡ fault_count c
   pub each : (number : ℕ) (fault : Fault) → slice_get (faults c) number ≡ Some fault → IsNumberOf c (successor c fault) (slice_index_or successors number None)
@@ -46,7 +48,7 @@ pub record AreRoots (c : Circuit) (roots : List ℕ) : Type 0 where
   pub whole : length roots ≡ fault_count c
   pub each : (number : ℕ) (fault : Fault) → slice_get (faults c) number ≡ Some fault → slice_get (faults c) (slice_index roots number) ≡ Some (root c fault)
 
--- This is the forest of the circuit's faults.
+-- The circuit is an `IsCircuit`, and this is the forest of its faults.
 pub record IsForestOf (c : Circuit) (forest : Forest) : Type 0 where
   pub circuit : IsCircuit c
   pub successors : AreSuccessors c forest.successors

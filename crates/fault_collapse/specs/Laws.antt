@@ -10,6 +10,6 @@ use Rattle.net_model.specs.Collapse.{successor, root}
 abbrev pub SameRootEqual : Type 0
 SameRootEqual = (c : Circuit) (f g : Fault) → IsCircuit c → IsFaultOf c f → IsFaultOf c g → root c f ≡ root c g → AreEqual c f g
 
--- no successor is left of a root
+-- a root has no successor
 abbrev pub RootIsLast : Type 0
 RootIsLast = (c : Circuit) (f : Fault) → IsCircuit c → IsFaultOf c f → successor c (root c f) ≡ None

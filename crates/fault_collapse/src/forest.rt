@@ -15,8 +15,8 @@ use std::alloc::{AllocError, Global};
 use std::marker::Model;
 
 /// The successors and roots of a circuit's faults, by number. A fault at a gate pin, or at a stem whose sole
-/// destination is a gate pin, has the equal fault at the gate's output as successor, where it alone decides that
-/// output. The root of a fault is the last of its chain of successors.
+/// destination is a gate pin, has the equal fault at the gate's output as its successor, if it alone decides that
+/// output. The root of a fault is the last fault of its chain of successors.
 #[derive(Drop)]
 pub struct Forest {
     successors: Vec<Option<u32>>,
@@ -34,7 +34,7 @@ impl Model for Forest {
     ghost invariant = { λ f. AreForestFields (spec.forest_with f.successors.items f.roots.items) };
 }
 
-/// The forest of a circuit's faults. `faults` is the list of the circuit's faults.
+/// Returns the forest of a circuit's faults. `faults` is the list of these faults.
 pub fn collapse(alloc: Global, circuit: &Circuit, faults: &FaultList) -> Result<Forest, AllocError>
     requires { faults.now ≡ faults_of circuit.now }
     ensures { IfOk result (IsForestOf circuit.now) }
@@ -46,8 +46,8 @@ pub fn collapse(alloc: Global, circuit: &Circuit, faults: &FaultList) -> Result<
 }
 
 impl Forest {
-    /// The number of the successor, if the fault with this number has one. The program asks for roots alone: this is for
-    /// tests and for callers from outside.
+    /// Returns the number of the successor of the fault with this number, or none exactly if the fault has no
+    /// successor. The program uses only roots; this is for tests and for callers from outside.
     pub fn successor(&self, number: u32) -> Option<u32>
         requires { number < number_count self.now }
         ensures value { result ≡ successor_of self.now number }
@@ -56,7 +56,7 @@ impl Forest {
         self.successors[number as usize]
     }
 
-    /// The number of the root of the fault with this number.
+    /// Returns the number of the root of the fault with this number.
     pub fn root(&self, number: u32) -> u32
         requires { number < number_count self.now }
         ensures value { result ≡ root_of self.now number }
@@ -66,14 +66,15 @@ impl Forest {
         self.roots[number as usize]
     }
 
-    /// The number of each number's root.
+    /// Returns the root of each number.
     pub fn roots(&self) -> &[u32]
         ensures { result.now ≡ self.now.roots }
     {
         self.roots.as_slice()
     }
 
-    /// Whether the faults with these numbers have the same root. Then they are equal.
+    /// Returns whether the faults with these numbers have the same root; then they are equal. Returns false exactly if
+    /// their roots differ.
     pub fn same_root(&self, a: u32, b: u32) -> bool
         requires first { a < number_count self.now }
         requires second { b < number_count self.now }
@@ -84,7 +85,7 @@ impl Forest {
         self.roots[a as usize] == self.roots[b as usize]
     }
 
-    /// How many numbers are roots, number 0 left out.
+    /// Returns how many numbers are roots, without number 0.
     pub fn root_count(&self) -> u32
         ensures { result ≡ length (root_numbers self.now) }
     {

@@ -7,7 +7,7 @@ pub fn same_root_equal()
     ensures { SameRootEqual }
 {}
 
-/// The root of a fault is the last of its chain: it has no successor.
+/// The root of a fault is the last fault of its chain: it has no successor.
 pub fn root_is_last()
     ensures { RootIsLast }
 {}

@@ -1,4 +1,4 @@
-//! Fault collapse: which faults are equal because of the gates that they stand at.
+//! Fault collapse: which faults are equal because of the gates at which they are.
 #![tactic(auto)]
 
 mod forest;

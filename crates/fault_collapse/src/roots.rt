@@ -11,8 +11,9 @@ use fault_list::FaultList;
 use net_model::{Circuit, Fault, Site};
 use std::alloc::{AllocError, Global};
 
-// The numbers of all faults' roots. A successor stands at the stem of a gate, and that of a stem at a later gate: so
-// the roots of stems are found from the last gate back, and then each fault has the root of its successor.
+// Returns the numbers of all faults' roots. A successor is at the stem of a gate, and the successor of that stem is at
+// a later gate. So the roots of stems are found from the last gate back, and then each fault gets the root of its
+// successor.
 pub(crate) fn roots(
     alloc: Global,
     circuit: &Circuit,
@@ -29,7 +30,7 @@ pub(crate) fn roots(
     Ok(roots)
 }
 
-// So many numbers, each at its own place.
+// Returns the numbers below `count`, each at its own place.
 fn own_numbers(alloc: Global, count: u32) -> Result<Vec<u32>, AllocError>
     ensures { IfOk result (λ numbers. numbers.items ≡ range_with_len 0 count) }
 {
@@ -88,7 +89,7 @@ fn follow(roots: &mut Vec<u32>, successors: &[Option<u32>], number: u32)
     }
 }
 
-// The number of a line's stem stuck at a value.
+// Returns the number of a line's stem stuck at a value.
 fn stem_number(circuit: &Circuit, faults: &FaultList, line: u32, bit: bool) -> u32
     requires faults { faults.now ≡ faults_of circuit.now }
     requires line { line < line_count circuit.now }

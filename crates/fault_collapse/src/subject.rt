@@ -1,4 +1,4 @@
-//! A circuit, the list of its faults and the forest in which they collapse, as one value.
+//! `Subject`: a circuit, the list of its faults and the forest in which they collapse, as one value.
 
 ghost use Rattle.std.specs.Prelude.{◌≡◌, ◌<◌, ◌↔◌, ◌^◌, length, IsTrue, IfOk};
 ghost use Rattle.net_model.specs.Circuit as spec;
@@ -15,8 +15,8 @@ use net_model::{Circuit, Fault};
 use std::alloc::{AllocError, Global};
 use std::marker::Model;
 
-/// A circuit with the list of its faults and the forest in which they collapse: made once, and lent to all that speaks of
-/// the circuit's faults.
+/// A circuit with the list of its faults and the forest in which they collapse. It is made once, and lent to all code
+/// that deals with the circuit's faults.
 #[derive(Drop)]
 pub struct Subject<'a> {
     circuit: &'a Circuit,
@@ -46,7 +46,7 @@ impl<'a> Subject<'a> {
         })
     }
 
-    /// The circuit.
+    /// Returns the circuit.
     pub fn circuit(&self) -> &'a Circuit
         ensures value { result.now ≡ self.now }
         ensures circuit { IsCircuit result.now }
@@ -54,21 +54,21 @@ impl<'a> Subject<'a> {
         self.circuit
     }
 
-    /// The list of the circuit's faults.
+    /// Returns the list of the circuit's faults.
     pub fn listed(&self) -> &FaultList
         ensures { result.now ≡ faults self.now }
     {
         &self.listed
     }
 
-    /// The forest in which the faults collapse.
+    /// Returns the forest in which the faults collapse.
     pub fn forest(&self) -> &Forest
         ensures { IsForestOf self.now result.now }
     {
         &self.forest
     }
 
-    /// How many fault numbers the circuit has.
+    /// Returns how many fault numbers the circuit has.
     pub fn numbers(&self) -> u32
         ensures value { result ≡ fault_count self.now }
         ensures few { result < 2 ^ 27 }
@@ -76,7 +76,7 @@ impl<'a> Subject<'a> {
         self.listed.len()
     }
 
-    /// The fault with a number.
+    /// Returns the fault with a number.
     pub fn fault(&self, number: u32) -> Fault
         requires { number < fault_count self.now }
         ensures value { result ≡ fault_numbered self.now number }
@@ -85,7 +85,8 @@ impl<'a> Subject<'a> {
         self.listed.get(number)
     }
 
-    /// Whether these are the numbers of sources, positions and faults.
+    /// Returns whether these are the circuit's numbers of sources, positions and faults: false exactly if one of the
+    /// three isn't the circuit's.
     pub fn has_sizes(&self, sources: u32, positions: u32, numbers: u32) -> bool
         ensures { IsTrue result ↔ ((sources ≡ self.now.sources) × (positions ≡ length self.now.positions) × (numbers ≡ fault_count self.now)) }
     {
@@ -94,7 +95,7 @@ impl<'a> Subject<'a> {
             && numbers == self.listed.len()
     }
 
-    /// Whether the faults with these numbers have the same root.
+    /// Returns whether the faults with these numbers have the same root: false exactly if their roots differ.
     pub fn same_root(&self, a: u32, b: u32) -> bool
         requires first { a < fault_count self.now }
         requires second { b < fault_count self.now }

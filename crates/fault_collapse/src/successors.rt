@@ -1,4 +1,4 @@
-//! The successor of each fault, by the gate that it stands at.
+//! The successor of each fault, by the gate at which the fault is.
 
 ghost use Rattle.std.specs.Prelude.{◌≡◌, ◌<◌, ◌≤◌, ◌==◌, IfOk, IsTrue, Some, false, length, if◌then◌else◌};
 ghost use Rattle.net_model.specs.Gate.{takes_pins};
@@ -12,7 +12,7 @@ use fault_list::FaultList;
 use net_model::{Circuit, Fault, Fold, Gate, Operation, Site};
 use std::alloc::{AllocError, Global};
 
-// The numbers of all faults' successors.
+// Returns the numbers of all faults' successors.
 pub(crate) fn successors(
     alloc: Global,
     circuit: &Circuit,
@@ -28,7 +28,7 @@ pub(crate) fn successors(
     Ok(found)
 }
 
-// The number of a fault's successor.
+// Returns the number of a fault's successor, if it has one.
 fn successor(circuit: &Circuit, faults: &FaultList, fault: Fault) -> Option<u32>
     requires faults { faults.now ≡ faults_of circuit.now }
     requires fault { IsFaultOf circuit.now fault }
@@ -42,7 +42,7 @@ fn successor(circuit: &Circuit, faults: &FaultList, fault: Fault) -> Option<u32>
     }
 }
 
-// The gate that a site alone leads into: that of the pin, or of the pin that is the stem's sole destination.
+// Returns the gate that a site alone leads into: that of the pin, or of the pin that is the stem's sole destination.
 fn entered_gate(circuit: &Circuit, site: Site) -> Option<u32>
     requires { IsFaultOf circuit.now (Fault.Stuck site false) }
     ensures { result ≡ entered_gate circuit.now site }
@@ -54,7 +54,7 @@ fn entered_gate(circuit: &Circuit, site: Site) -> Option<u32>
     }
 }
 
-// The gate at whose pin a line's sole destination stands, if it has such a one.
+// Returns the gate with the pin that is a line's sole destination, if it is a pin.
 fn sole_gate(circuit: &Circuit, line: u32) -> Option<u32>
     requires { line < line_count circuit.now }
     ensures { result ≡ only_gate (destinations circuit.now line) }
@@ -68,7 +68,8 @@ fn sole_gate(circuit: &Circuit, line: u32) -> Option<u32>
     Some(wiring.order()[readers[0] as usize])
 }
 
-// The number of the fault at a gate's stem that is equal to a bit stuck at one of its pins.
+// Returns the number of the fault at a gate's stem that equals a bit stuck at one of its pins, if that pin alone
+// decides.
 fn carried_fault(circuit: &Circuit, faults: &FaultList, bit: bool, gate: u32) -> Option<u32>
     requires faults { faults.now ≡ faults_of circuit.now }
     requires from { circuit.now.sources ≤ gate }
@@ -79,7 +80,7 @@ fn carried_fault(circuit: &Circuit, faults: &FaultList, bit: bool, gate: u32) ->
     faults.number_of(&Fault::Stuck(Site::Stem(gate), value))
 }
 
-// The value that a bit stuck at one pin puts on the gate, if it alone decides.
+// Returns the value that a bit stuck at one pin puts on the gate, if it alone decides.
 fn carried_value(gate: &Gate, bit: bool) -> Option<bool>
     requires { IsTrue (takes_pins gate.now.kind (length gate.now.pins)) }
     ensures { result ≡ carried_value gate.now.kind (length gate.now.pins) bit }
@@ -94,7 +95,7 @@ fn carried_value(gate: &Gate, bit: bool) -> Option<bool>
     }
 }
 
-// What a fold of so many bits gives, if one of them alone decides.
+// Returns what a fold of `bits` bits gives, if one of them alone decides it.
 fn decided_fold(fold: Fold, bits: usize, bit: bool) -> Option<bool>
     ensures { result ≡ (if bits == 1 then Some bit else controlled_fold fold bit) }
 {

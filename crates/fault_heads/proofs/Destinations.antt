@@ -1,4 +1,4 @@
--- The only destination of a line, from who uses it.
+-- The only destination of a line, by the gates that read it and the positions that show it.
 use Rattle.std.proofs.Common.{◌≡◌, ◌≢◌, ◌∙◌, ℕ, zero, suc, ◌<◌, ◌≤◌, List, [], ◌∷◌, length, get_or, sym, ap, subst, arith}
 use Rattle.std.specs.Prelude.{None, Some, Contains, slice_get}
 use Rattle.std.proofs.lemmas.List.{get_or_default}
@@ -31,7 +31,7 @@ module _ (c : Circuit) (w : Wiring) (wired : IsWiring c w) (line : ℕ) (order r
       let listed = wired.readers.all line found.0 found.1 (subst (λ r. Feeds c line r) (sym there) feeds) in
       (found.0, subst (λ xs. Contains xs found.0) (sym readers_are) listed, ap (λ xs. get_or xs found.0 0) order_is ∙ there)
 
-  -- and whatever has a place there reads it
+  -- a gate that has a place among the readers reads the line
   place_reads : (place : ℕ) → Contains readers place → Feeds c line (get_or order place 0)
   place_reads place m = subst (λ xs. Feeds c line (get_or xs place 0)) (sym order_is) (wired.readers.only line place (subst (λ xs. Contains xs place) readers_are m))
 
@@ -54,7 +54,7 @@ module _ (c : Circuit) (w : Wiring) (wired : IsWiring c w) (line : ℕ) (order r
           first zero h e = e
           first (suc k) h e = absurd (omega arith)
 
-  -- nor has one that several gates read, or none
+  -- a line that several gates or none read has no such destination
   pub none_read : IsOnlyReader order readers None → (gate pin : ℕ) → IsOnlyDestination c line gate pin → ⊥
   none_read none gate pin only =
       let place = reader_place gate (only_feeds gate pin only) in
@@ -69,7 +69,7 @@ module _ (c : Circuit) (w : Wiring) (wired : IsWiring c w) (line : ℕ) (order r
   reader_within gate is = reader_is_gate c line gate (feeds_gate gate is)
 
   module _ (gate : ℕ) (is : IsOnlyReader order readers (Some gate)) where
-    -- nor one that a gate reads twice
+    -- a line that a gate reads twice has no such destination
     pub none_placed : IsOnlyPlace (pins_of c gate) line None → (other pin : ℕ) → IsOnlyDestination c line other pin → ⊥
     none_placed none other pin only =
         let same : gate ≡ other = fed_only gate other pin (feeds_gate gate is) only in

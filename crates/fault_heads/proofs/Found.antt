@@ -5,12 +5,12 @@ use Rattle.net_model.specs.Circuit.{Circuit}
 use Rattle.fault_heads.specs.declared.destination.GatePin.{GatePin}
 use Rattle.fault_heads.specs.HeadsFields.{IsDestination}
 
--- The line stands before the place here alone, or not at all.
+-- Before place `at` the list has the line at this place alone, or no place is given and the list doesn't have it there.
 abbrev pub FoundBefore : List ℕ → ℕ → ℕ → Option ℕ → Type 0
 FoundBefore lines line at None = (other : ℕ) → other < at → slice_get lines other ≡ Some line → ⊥
 FoundBefore lines line at (Some found) = (found < at) × (slice_get lines found ≡ Some line) × ((other : ℕ) → other < at → slice_get lines other ≡ Some line → other ≡ found)
 
--- The only destinations of the first lines.
+-- The list has the only destinations of the first lines.
 pub record AreFoundSoFar (c : Circuit) (lines : ℕ) (found : List (Option GatePin)) : Type 0 where
   pub count : length found ≡ lines
   pub each : (line : ℕ) (at : Option GatePin) → slice_get found line ≡ Some at → IsDestination c line at

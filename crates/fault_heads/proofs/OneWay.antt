@@ -47,12 +47,12 @@ stem_law c line bit v free answer w inside a is = by bit (bit_at free line) refl
 
 -- ---- positions
 
--- lines are right under a position's fault as without one
+-- a valuation that agrees without a fault agrees under a position's fault
 position_agrees : (c : Circuit) (at : ℕ) (bit : Bool) (v free : List Bool) → Agrees c Free v free → Agrees c (Stuck (Position at) bit) v free
 unfolding line_bit driven_bit
 position_agrees c at bit v free a = record { whole = a.whole; each = λ l h. a.each l h }
 
--- and a position that is stuck at the bit that it shows shows it
+-- a position that is stuck at the bit that it shows changes nothing
 position_same : (c : Circuit) (at : ℕ) (free : List Bool) → shown_bits c (Stuck (Position at) (bit_at free (get_or c.positions at 0))) free ≡ shown_bits c Free free
 position_same c at free =
     same_seen (stuck_position (Stuck (Position at) (bit_at free (get_or c.positions at 0)))) (stuck_position Free) free free c.positions
@@ -117,7 +117,7 @@ module _ (c : Circuit) (w : IsCircuit c) (line gate pin : ℕ) (only : IsOnlyDes
   way_turned : Bool
   way_turned = bits_differ (value_with_pin c v free gate pin (not (bit_at free line))) (bit_at free gate)
 
-  -- the line has its opposite besides
+  -- the valuation with the line turned too
   with_line : List Bool
   with_line = set bits line (not (bit_at free line))
 
@@ -189,7 +189,7 @@ module _ (c : Circuit) (w : IsCircuit c) (line gate pin : ℕ) (only : IsOnlyDes
           let there : slice_get (pins_of c l) m.0 ≡ Some line = slice_get-get_or (pins_of c l) m.0 read m.1 ∙ ap Some (m.2 ∙ sym same) in
           not_gate (sym (only.others l m.0 there).0)
 
-  -- with the line turned too, the valuation agrees where the line is turned
+  -- with the line turned too, the valuation agrees under the fault that turns the line
   way_agrees : Agrees c (turning c free (head.Line line)) v with_line
   unfolding with_line
   way_agrees = record {

@@ -1,4 +1,4 @@
--- What one of a row of readers sees, and rows of which each reader sees the same.
+-- What one of several readers sees, and when all of them see the same.
 use Rattle.std.proofs.Common.{◌≡◌, ◌∙◌, ℕ, zero, suc, ◌+◌, ◌<◌, List, [], ◌∷◌, length, get_or, sym, ap, arith}
 use Rattle.std.specs.Prelude.{Bool, false, Option, Some, unwrap_or}
 use Rattle.std.specs.Option.{option_map_or}
@@ -22,7 +22,7 @@ pub seen_at : (stuck : ℕ → Option Bool) (bits : List Bool) (lines : List ℕ
 seen_at stuck bits lines i h =
     ap (λ xs. bit_at xs i) (sym (seen_from-all stuck bits lines)) ∙ seen_from-at stuck bits 0 lines i h ∙ ap (λ n. unwrap_or (stuck n) (bit_at bits (get_or lines i 0))) (omega arith)
 
--- where each reader sees the same, all do
+-- if each reader sees the same, so do all together
 pub same_seen : (stuck other : ℕ → Option Bool) (x y : List Bool) (lines : List ℕ)
     → ((i : ℕ) → i < length lines → unwrap_or (stuck i) (bit_at x (get_or lines i 0)) ≡ unwrap_or (other i) (bit_at y (get_or lines i 0))) → seen_bits stuck x lines ≡ seen_bits other y lines
 same_seen stuck other x y lines same =

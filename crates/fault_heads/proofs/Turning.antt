@@ -1,4 +1,4 @@
--- A line that is turned, or not: the valuation that agrees then, beside the one without a fault.
+-- The valuation that agrees if a line is turned, or not, compared with the one without a fault.
 use Rattle.std.proofs.Common.{◌≡◌, ◌≢◌, ◌∙◌, ℕ, ◌<◌, List, refl, ap, arith, ltb, eqb}
 use Rattle.std.specs.Prelude.{Bool, true, false, not, Some, unwrap_or, if◌then◌else◌}
 use Rattle.std.specs.Bool.{then_some}
@@ -26,12 +26,12 @@ turned_to false false = refl
 
 -- ---- the right side of a line's equation
 
--- it stays where the lines that the gate reads stay
+-- it stays if the lines that the gate reads stay
 pub stays : (c : Circuit) (f : Fault) (v x y : List Bool) (line : ℕ) → ((read : ℕ) → Feeds c read line → bit_at x read ≡ bit_at y read) → line_bit c f v x line ≡ line_bit c f v y line
 unfolding line_bit driven_bit
 stays c f v x y line h = ap (unwrap_or (stuck_stem f line)) (same_driven c f f v x y line (gate_at c line) (λ pin. refl) h)
 
--- it is the fault-free one where the fault doesn't stand
+-- it is the fault-free one if the line isn't the first that the fault changes
 pub untouched : (c : Circuit) (f : Fault) (v bits : List Bool) (line : ℕ) → (first_changed f ≡ Some line → ⊥) → line_bit c f v bits line ≡ line_bit c Free v bits line
 unfolding line_bit driven_bit
 untouched c f v bits line apart =
@@ -44,7 +44,7 @@ pub stuck_here : (c : Circuit) (bit : Bool) (v bits : List Bool) (line : ℕ) �
 unfolding line_bit
 stuck_here c bit v bits line = ap (λ t. unwrap_or (then_some t bit) (driven_bit c (Stuck (Stem line) bit) v bits line)) (same_number line)
 
--- ---- two faults of which one valuation shows the same
+-- ---- two faults whose valuations show the same
 
 pub carry_answer : (c : Circuit) → IsCircuit c → (f g : Fault) (v x y answer : List Bool) → Agrees c f v x → Agrees c g v y → shown_bits c f x ≡ shown_bits c g y → IsAnswer c f v answer → IsAnswer c g v answer
 carry_answer c w f g v x y answer a b same is = record { bits = y; agrees = b; shows = is.shows ∙ (ap (shown_bits c f) (Agrees-unique c w f v is.bits x is.agrees a) ∙ same) }

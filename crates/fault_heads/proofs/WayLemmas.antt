@@ -22,7 +22,7 @@ use Rattle.fault_heads.proofs.OneWay.{way_law}
 
 -- ---- one way after another
 
--- a line that is turned turns the next head, or is in vain
+-- a turned line turns the next head or changes no answer
 pub chained : (c : Circuit) (free v answer : List Bool) (line : ℕ) (next : Head) (first second : Bool) → IsAnswer c (turned_if c free (head.Line line) first) v answer
     → (IsAnswer c (turning c free (head.Line line)) v answer → IsAnswer c (turned_if c free next second) v answer) → IsAnswer c (turned_if c free next (first && second)) v answer
 chained c free v answer line next true second is onward = onward is
@@ -50,7 +50,7 @@ own_way good line way live inside ends head_is lanes_are is_live = record {
   past = λ lane past within. ap (λ xs. bit_at xs lane) lanes_are ∙ (is_live lane within ∙ past_bit lane (length (vectors_of good)) past);
 }
 
--- the way of a line that goes on with a gate's
+-- the way of a line that goes on with a gate
 pub longer_way : (good : GoodSim) → IsCircuit good.circuit → (line gate pin : ℕ) (way next : Turn) (row both : List Bool) → IsOnlyDestination good.circuit line gate pin → IsWay good gate next → way.head ≡ next.head → way.lanes ≡ both
     → ((lane : ℕ) (free : List Bool) → IsFreeLane good lane free → bit_at row lane ≡ bits_differ (value_with_pin good.circuit (vector_at good lane) free gate pin (not (bit_at free line))) (bit_at free gate)) → IsFalsePast good row
     → ((lane : ℕ) → lane < LANES → bit_at both lane ≡ (bit_at row lane && bit_at next.lanes lane)) → IsWay good line way
@@ -68,13 +68,13 @@ longer_way good w line gate pin way next row both only onward head_is lanes_are 
   past = λ lane gone within. ap (λ xs. bit_at xs lane) lanes_are ∙ (and lane within ∙ and_past (bit_at row lane) (bit_at next.lanes lane) (past lane gone within));
 }
 
--- the only destination of a line stands at a gate
+-- the only destination of a line is a pin of a gate
 pub destination_is_gate : (c : Circuit) (line gate pin : ℕ) → IsOnlyDestination c line gate pin → (c.sources ≤ gate) × (gate < line_count c)
 destination_is_gate c line gate pin only = reader_is_gate c line gate (pin, slice_get_within (pins_of c gate) pin line only.reads, get_or_from_slice_get (pins_of c gate) pin line line only.reads)
 
 -- ---- the ways so far
 
--- the ways of the lines that are told
+-- There is a place for each line, and the lines for which `told` holds have their ways.
 pub record AreWaysSoFar (good : GoodSim) (told : ℕ → Type 0) (ways : List Turn) : Type 0 where
   pub whole : length ways ≡ line_count good.circuit
   pub each : (line : ℕ) → told line → (way : Turn) → slice_get ways line ≡ Some way → IsWay good line way
@@ -102,20 +102,20 @@ one_more good told after ways line way inside so_far is split = record {
   ];
 }
 
--- the gates from a place of the order on
+-- The line is one of the gates starting at a place of the order.
 abbrev pub FromPlace : List ℕ → ℕ → ℕ → Type 0
 FromPlace order i line = (j : ℕ) × (i ≤ j) × (j < length order) × (get_or order j 0 ≡ line)
 
--- all gates, and the first sources
+-- The line is a gate or one of the first sources.
 abbrev pub GatesAndSources : Circuit → ℕ → ℕ → Type 0
 GatesAndSources c first line = (c.sources ≤ line) ⊎ (line < first)
 
--- none yet
+-- no line has its way yet
 pub no_ways : (good : GoodSim) (order : List ℕ) (ways : List Turn) → length ways ≡ line_count good.circuit → AreWaysSoFar good (FromPlace order (length order)) ways
 no_ways good order ways whole = record { whole = whole; each = λ line m way there. absurd (omega (arith, m.1, m.2)) }
 
 module _ (good : GoodSim) (w : IsCircuit good.circuit) (order : List ℕ) (is : IsOrder good.circuit order) where
-  -- the only destination of a gate's line stands at a later gate
+  -- the only destination of a gate's line is a pin of a later gate
   pub destination_later : (i gate pin : ℕ) → i < length order → IsOnlyDestination good.circuit (get_or order i 0) gate pin → FromPlace order (i + 1) gate
   destination_later i gate pin h only =
       let c = good.circuit in

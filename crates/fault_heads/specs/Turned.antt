@@ -12,7 +12,7 @@ use Rattle.fault_heads.specs.declared.head.Head.TheVariants as head
 
 -- ---- the lanes of a block
 
--- the vector of a lane of the last block
+-- the vector of a lane in the block that was run last
 abbrev pub vector_at : GoodSim → ℕ → List Bool
 vector_at good lane = slice_index_or (vectors_of good) lane []
 
@@ -32,17 +32,18 @@ IsFalsePast good row = (lane : ℕ) → length (vectors_of good) ≤ lane → la
 
 -- ---- heads
 
--- The head stands in the circuit.
+-- The head is a line or an observed position of the circuit.
 abbrev pub IsHeadOf : Circuit → Head → Type 0
 IsHeadOf c (head.Line line) = line < line_count c
 IsHeadOf c (head.Position at) = at < length c.positions
 
--- the fault that turns a head at a vector, by the fault-free bits of the lines: it sticks it at the opposite of what it has there without a fault
+-- the fault that turns a head at a vector, by the fault-free bits of the lines: the head is stuck at the opposite of
+-- the bit that it has without a fault
 abbrev pub turning : Circuit → List Bool → Head → Fault
 turning c free (head.Line line) = Stuck (Stem line) (not (bit_at free line))
 turning c free (head.Position at) = Stuck (Position at) (not (bit_at free (slice_index c.positions at)))
 
--- with true the fault that turns the head, with false no fault
+-- the fault that turns the head if the bit is true, else no fault
 abbrev pub turned_if : Circuit → List Bool → Head → Bool → Fault
 turned_if c free head true = turning c free head
 turned_if c free head false = Free
@@ -58,7 +59,7 @@ own_head (Stuck (Stem line) bit) = Some (head.Line line)
 own_head (Stuck (Pin gate pin) bit) = Some (head.Line gate)
 own_head (Stuck (Position at) bit) = Some (head.Position at)
 
--- In each live lane the fault answers as its head turned where the row has the lane, and as no fault elsewhere.
+-- In each lane with a vector the fault answers as its head turned if the row is true there, and else as no fault.
 abbrev pub TurnsHead : GoodSim → Fault → Head → List Bool → Type 0
 TurnsHead good f head row = (lane : ℕ) (free answer : List Bool) → IsFreeLane good lane free
     → IsAnswer good.circuit f (vector_at good lane) answer → IsAnswer good.circuit (turned_if good.circuit free head (bit_at row lane)) (vector_at good lane) answer

@@ -8,14 +8,14 @@ ghost use Rattle.fault_heads.specs.HeadsFields.{IsDestination, AreDestinations};
 use net_model::Circuit;
 use std::alloc::{AllocError, Global};
 
-/// A pin of a gate, which has the number of the line that it drives.
+/// A pin of a gate. A gate has the number of the line that it drives.
 #[derive(Clone, Copy)]
 pub(crate) struct GatePin {
     pub(crate) gate: u32,
     pub(crate) pin: u32,
 }
 
-/// For each line the pin that is its only destination, if there is such a one.
+/// Returns for each line the pin that is its only destination, if it has one.
 pub(crate) fn destinations(
     alloc: Global,
     circuit: &Circuit,
@@ -29,7 +29,7 @@ pub(crate) fn destinations(
     Ok(found)
 }
 
-// The pin that is a line's only destination, if there is such a one.
+// Returns the pin that is the line's only destination, if it has one.
 fn only_destination(circuit: &Circuit, line: u32) -> Option<GatePin>
     requires { line < line_count circuit.now }
     ensures { IsDestination circuit.now line result }
@@ -47,7 +47,7 @@ fn only_destination(circuit: &Circuit, line: u32) -> Option<GatePin>
     Some(GatePin { gate, pin })
 }
 
-// The gate at all of these places of an order, if it is one.
+// Returns the gate that `order` has at all of `places`, if there are any places and they have one gate.
 fn only_reader(order: &[u32], places: &[u32]) -> Option<u32>
     requires { All (λ place. place < length order.now) places.now }
     ensures { IsOnlyReader order.now places.now result }
@@ -64,7 +64,7 @@ fn only_reader(order: &[u32], places: &[u32]) -> Option<u32>
     Some(gate)
 }
 
-// The only place at which a list has a line, if there is one.
+// Returns the place at which `lines` has `line`, if it has it exactly once.
 fn only_place(lines: &[u32], line: u32) -> Option<u32>
     requires { length lines.now < 2 ^ 32 }
     ensures { IsOnlyPlace lines.now line result }

@@ -9,7 +9,7 @@ pub enum Head {
     Position(u32),
 }
 
-/// In which lanes of a block a fault turns its head.
+/// The head that a fault turns, and in which lanes of a block it turns it.
 #[derive(Clone, Copy)]
 pub struct Turn {
     pub head: Head,

@@ -1,4 +1,4 @@
-//! The heads of all lines.
+//! `Heads`: for each line the head at the end of its way.
 
 ghost use Rattle.std.specs.Prelude.{◌≡◌, ◌↔◌, ℕ, ◌<◌, length, slice_get, IfOk, IfSome, None, Some};
 ghost use Rattle.net_model.specs.Fault.{IsFaultOf};
@@ -16,16 +16,17 @@ use std::alloc::{AllocError, Global};
 use std::marker::Model;
 use word_sim::{GoodSim, Lanes};
 
-/// The end of each line's way, and in which vectors of a block turning the line turns it. A line with only one destination,
-/// and that a pin of a gate, goes on with the gate's line; every other line is the end of its own way.
+/// For each line the head at the end of its way, and in which vectors of a block turning the line turns this head. If a
+/// line's only destination is a pin of a gate, its way goes on with the gate's line. Every other line is the end of its
+/// own way.
 pub struct Heads<'a> {
     circuit: &'a Circuit,
     destinations: Vec<Option<GatePin>>,
     ways: Vec<Turn>,
 }
 
-// Written out, it is one step in the proof of each function that lets the heads go, where a derived one is a step for
-// each vector in them.
+// Written by hand, since the proof of each function that drops heads then has one step for it; a derived drop takes a
+// step for each vector in them.
 impl Drop for Heads<'_> {
     fn drop(self) {
         let Heads {
@@ -48,7 +49,7 @@ impl<'a> Model for Heads<'a> {
 }
 
 impl<'a> Heads<'a> {
-    /// The heads of a circuit's lines, of which nothing is found yet.
+    /// Returns the heads of the lines of `circuit`. No way is found yet.
     pub fn new(alloc: Global, circuit: &'a Circuit) -> Result<Heads<'a>, AllocError>
         ensures { IfOk result (λ heads. heads.circuit ≡ circuit.now) }
     {
@@ -64,8 +65,9 @@ impl<'a> Heads<'a> {
         })
     }
 
-    /// Finds in which vectors of the block that the fault-free simulator ran last each line turns its head: once for each line
-    /// the gate that it goes on with is evaluated. It takes no memory.
+    /// Finds in which vectors of the block that `good` ran last each line turns the head at the end of its way
+    /// (critical path tracing inside fanout-free regions). For each line only the gate that its way goes on with is
+    /// evaluated, once. It takes no memory.
     pub fn run(&mut self, good: &GoodSim)
         requires circuit { good.now.circuit ≡ self.old.circuit }
         ensures circuit { self.new.circuit ≡ self.old.circuit }
@@ -74,7 +76,8 @@ impl<'a> Heads<'a> {
         find_ways(good, self.destinations.as_slice(), &mut self.ways);
     }
 
-    /// What a fault turns at the end of its way, and in which of the vectors for which the ways were found. None without a fault.
+    /// Returns what `fault` turns at the end of its way, and in which of the vectors for which the ways were found.
+    /// Returns none exactly for `Fault::Free`.
     pub fn turn(&self, good: &GoodSim, fault: Fault) -> Option<Turn>
         requires circuit { good.now.circuit ≡ self.now.circuit }
         requires ways { AreWays good.now self.now.ways }
@@ -99,7 +102,7 @@ impl<'a> Heads<'a> {
     }
 }
 
-// Finds the ways of all lines: a gate's before those of the lines that it reads, and the sources' at last.
+// Finds the ways of all lines: that of a gate before those of the lines that it reads, and those of the sources last.
 fn find_ways(good: &GoodSim, destinations: &[Option<GatePin>], ways: &mut [Turn])
     requires destinations { AreDestinations good.now.circuit destinations.now }
     requires whole { length ways.old ≡ line_count good.now.circuit }
@@ -115,7 +118,7 @@ fn find_ways(good: &GoodSim, destinations: &[Option<GatePin>], ways: &mut [Turn]
     }
 }
 
-// The way of a line, from that of its only destination, if it has one.
+// Returns the way of a line, by the way of its only destination if it has one.
 fn way(good: &GoodSim, line: u32, destination: Option<GatePin>, ways: &[Turn]) -> Turn
     requires line { line < line_count good.now.circuit }
     requires destination { IsDestination good.now.circuit line destination }

@@ -2,22 +2,24 @@
 
 ghost use Rattle.fault_heads.specs.Laws.{StemTurnsLine, PinTurnsGate, PositionTurnsItself, LineTurnsGate};
 
-/// The fault of a stem answers as its line turned where the line has another bit, and elsewhere as no fault.
+/// The fault of a stem answers as its line turned if the line has another bit, and else as no fault.
 pub fn stem_turns_line()
     ensures { StemTurnsLine }
 {}
 
-/// The fault of a pin answers as its gate's line turned where the gate, with the pin stuck, gives another bit.
+/// The fault of a pin answers as its gate's line turned if the gate gives another bit with the pin stuck, and else as
+/// no fault.
 pub fn pin_turns_gate()
     ensures { PinTurnsGate }
 {}
 
-/// The fault of a position answers as the position turned where its line has another bit.
+/// The fault of a position answers as the position turned if its line has another bit, and else as no fault.
 pub fn position_turns_itself()
     ensures { PositionTurnsItself }
 {}
 
-/// A line whose only destination is a pin answers, turned, as the pin's gate turned where the gate, with the pin turned, gives another bit.
+/// If a line's only destination is a pin, the line turned answers as no fault, unless the pin's gate gives another bit
+/// with the pin turned; then it answers as the gate's line turned.
 pub fn line_turns_gate()
     ensures { LineTurnsGate }
 {}

@@ -1,4 +1,5 @@
-//! Faults as heads: the line or position that a fault turns at the end of its way, and in which vectors of a block.
+//! Faults as heads: the line or position that a fault turns at the end of its way, and in which vectors of a block it
+//! turns it.
 #![tactic(auto)]
 
 mod destination;

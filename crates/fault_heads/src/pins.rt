@@ -1,4 +1,4 @@
-//! The value of a gate of which one pin sees other bits than without a fault, in all lanes at once.
+//! The value of a gate in all lanes at once, if one of its pins sees other bits than without a fault.
 
 ghost use Rattle.std.specs.Prelude.{◌≡◌, ℕ, ◌<◌, ◌≤◌, ◌^◌, Bool, List, length, All, IsTrue, unwrap_or};
 ghost use Rattle.net_model.specs.Fault.{stuck_pin};
@@ -11,7 +11,8 @@ ghost use Rattle.fault_heads.specs.Laws.{value_with_pin};
 use net_model::{Fault, Fold, Operation, Site};
 use word_sim::{GoodSim, Lanes};
 
-/// The value of a line's gate where one of its pins sees these bits.
+/// Returns in each lane with a vector the value of `gate` if its pin `pin` sees the bits of `seen`, and its other pins
+/// what they see without a fault.
 pub(crate) fn value_with_pin(good: &GoodSim, gate: u32, pin: u32, seen: Lanes) -> Lanes
     requires from { good.now.circuit.sources ≤ gate }
     requires below { gate < line_count good.now.circuit }
@@ -27,7 +28,7 @@ pub(crate) fn value_with_pin(good: &GoodSim, gate: u32, pin: u32, seen: Lanes) -
     lanes.inverted(read.kind.inverts())
 }
 
-// What a pin at this place sees, which reads this line.
+// Returns what the pin at place `at` sees, which reads line `read`, if pin `pin` sees `seen`.
 fn pin_lanes(good: &GoodSim, at: u32, read: u32, gate: u32, pin: u32, seen: Lanes) -> Lanes
     requires read { read < line_count good.now.circuit }
     ensures { (lane : ℕ) (free : List Bool) → IsFreeLane good.now lane free → bit_at result lane ≡ unwrap_or (stuck_pin (Fault.Stuck (Site.Pin gate pin) (bit_at seen lane)) gate at) (bit_at free read) }
@@ -35,7 +36,6 @@ fn pin_lanes(good: &GoodSim, at: u32, read: u32, gate: u32, pin: u32, seen: Lane
     if at == pin { seen } else { good.lanes(read) }
 }
 
-// What a fold makes of the pins.
 fn folded_lanes(good: &GoodSim, fold: Fold, pins: &[u32], gate: u32, pin: u32, seen: Lanes) -> Lanes
     requires inside { All (λ pin. pin < line_count good.now.circuit) pins.now }
     requires few { length pins.now < 2 ^ 32 }
@@ -49,7 +49,7 @@ fn folded_lanes(good: &GoodSim, fold: Fold, pins: &[u32], gate: u32, pin: u32, s
     lanes
 }
 
-// The pin that the first one chooses.
+// Returns what is seen by the pin that the first pin chooses.
 fn chosen_lanes(good: &GoodSim, pins: &[u32], gate: u32, pin: u32, seen: Lanes) -> Lanes
     requires inside { All (λ pin. pin < line_count good.now.circuit) pins.now }
     requires three { length pins.now ≡ 3 }

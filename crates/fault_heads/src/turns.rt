@@ -11,8 +11,8 @@ use crate::pins::value_with_pin;
 use net_model::{Fault, Site};
 use word_sim::{GoodSim, Lanes};
 
-/// What a fault turns at its own place, and in which vectors of the block that the fault-free simulator ran last: its stem, the line of
-/// its pin's gate, or its position. None without a fault.
+/// Returns what `fault` turns at its own place, and in which vectors of the block that `good` ran last: its stem, the
+/// line of its pin's gate, or its position. Returns none exactly for `Fault::Free`.
 pub fn first_turn(good: &GoodSim, fault: Fault) -> Option<Turn>
     requires fault { IsFaultOf good.now.circuit fault }
     ensures none { result ≡ None ↔ fault ≡ Fault.Free }
@@ -27,7 +27,7 @@ pub fn first_turn(good: &GoodSim, fault: Fault) -> Option<Turn>
     }
 }
 
-// What a bit stuck at a site turns there.
+// Returns what `bit` stuck at `site` turns there.
 fn turn_at(good: &GoodSim, site: Site, bit: bool) -> Turn
     requires fault { IsFaultOf good.now.circuit (Fault.Stuck site bit) }
     ensures own { own_head (Fault.Stuck site bit) ≡ Some result.head }
@@ -52,7 +52,8 @@ fn turn_at(good: &GoodSim, site: Site, bit: bool) -> Turn
     }
 }
 
-/// In which live lanes these bits differ from those of a line.
+/// Returns 1 in each lane with a vector in which `bits` differ from the fault-free bits of `line`, and 0 in all other
+/// lanes.
 pub(crate) fn difference(good: &GoodSim, line: u32, bits: Lanes) -> Lanes
     requires line { line < line_count good.now.circuit }
     ensures live { (lane : ℕ) (free : List Bool) → IsFreeLane good.now lane free → bit_at result lane ≡ bits_differ (bit_at bits lane) (bit_at free line) }

@@ -1,4 +1,4 @@
--- A circuit has no more sites than lines, pins and positions.
+-- A circuit has at most as many sites as lines, pins and positions.
 use Rattle.std.proofs.Common.{◌≡◌, ℕ, zero, suc, ◌+◌, ◌<◌, ◌≤◌, ◌^◌, Bool, true, false, cond, eqb, List, [], ◌∷◌, length, refl, arith, inl, inr}
 use Rattle.std.specs.Prelude.{flat_map, sum_by, nat_le, if◌then◌else◌}
 use Rattle.std.specs.List.{range_with_len}
@@ -49,7 +49,7 @@ few_places (x ∷ xs) first count =
       few_places xs first count,
     )
 
--- of all these gates no more pins read lines than they have
+-- at most as many pins of these gates read lines as the gates have
 few_pins : (gates : List Gate) (first count : ℕ) → sum_by (λ line. sum_by (λ (gate : Gate). count_of line gate.pins) gates) (range_with_len first count) ≤ sum_by (λ (gate : Gate). length gate.pins) gates
 few_pins gates first count =
     let lines = range_with_len first count in

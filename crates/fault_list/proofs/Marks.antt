@@ -67,7 +67,7 @@ adds_more lines k old now h inside so_far =
 -- ---- the lines of reached positions
 
 module _ (positions : List ℕ) (reached : List Bool) where
-  -- of the first so many positions
+  -- only lines of reached positions are marked, and all lines of those among the first `count` positions
   pub record ShownBelow (count lines : ℕ) (marks : List Bool) : Type 0 where
     pub whole : length marks ≡ lines
     pub shown : (at : ℕ) → at < count → bit_at reached at ≡ true → bit_at marks (get_or positions at 0) ≡ true

@@ -8,7 +8,7 @@ use Rattle.net_model.specs.declared.fault.Fault.TheVariants.{Free, Stuck}
 use Rattle.fault_list.specs.Numbers.{faults_at}
 use Rattle.fault_list.proofs.Stuck.{stuck_of, site_of, never_free}
 
--- this is the place of an item, and of no other
+-- the option is the place of the item if there is one, and of no other item
 abbrev pub IsPlaceOf : {A : Type 0} → List A → A → Option ℕ → Type 0
 IsPlaceOf xs x found = (place : ℕ) → (found ≡ Some place → slice_get xs place ≡ Some x) × (slice_get xs place ≡ Some x → found ≡ Some place)
 

@@ -1,4 +1,4 @@
--- No site stands twice in the list of a circuit's sites.
+-- No site occurs twice in the list of a circuit's sites.
 use Rattle.std.proofs.Common.{◌≡◌, ◌≢◌, ℕ, zero, suc, ◌+◌, ◌<◌, Bool, true, false, eqb, List, [], ◌∷◌, ◌++◌, length, get_or, map, refl, ap, arith, subst}
 use Rattle.std.specs.Prelude.{All, Some, slice_get, flat_map, nat_le, if◌then◌else◌}
 use Rattle.std.specs.Bool.{then_some}
@@ -13,9 +13,9 @@ use Rattle.fault_list.proofs.Places.{places_from}
 use Rattle.net_model.proofs.Copies.{All-at}
 use Rattle.net_model.proofs.Listed.{All-if, All-flat_map, All-range_with_len}
 
--- ---- lists in which nothing stands twice
+-- ---- lists in which nothing occurs twice
 
--- each element is another than all after it
+-- each element differs from all after it
 pub Apart : {X : Type 0} → List X → Type 0
 Apart [] = Unit {0}
 Apart (x ∷ xs) = All (λ y. x ≢ y) xs × Apart xs
@@ -35,7 +35,7 @@ Apart-append {X = X} (x ∷ xs) ys a b h =
     let Other : X → Type 0 = λ x. All (λ y. x ≢ y) ys in
     (All-append (λ y. x ≢ y) xs ys a.0 (All-head Other x xs h), Apart-append xs ys a.1 b (All-tail Other x xs h))
 
--- lists that a key tells apart, one after another
+-- consecutive lists that a key distinguishes
 Apart-flat_map : {X : Type 0} (f : ℕ → List X) (key : X → ℕ) → ((n : ℕ) → Apart (f n)) → ((n : ℕ) → All (λ x. key x ≡ n) (f n)) → (first count : ℕ) → Apart (flat_map f (range_with_len first count))
 unfolding Apart
 Apart-flat_map f key each keys first zero = tt
@@ -63,7 +63,7 @@ unfolding Apart
 Apart-then true n xs h a = (h, a)
 Apart-then false n xs h a = a
 
--- what holds of each place at which the number stands
+-- what holds of each place at which the number occurs
 pub All-places : (P : ℕ → Type 0) (x n : ℕ) (xs : List ℕ) → ((k : ℕ) → k < length xs → get_or xs k 0 ≡ x → P (n + k)) → All P (places_from x n xs)
 All-places P x n [] h = All-nil P
 All-places P x n (y ∷ ys) h =

@@ -1,4 +1,4 @@
--- The places at which a number stands in a list, counted from a number on.
+-- The places at which a number occurs in a list, counted starting at a number.
 use Rattle.std.proofs.Common.{ℕ, List}
 use Rattle.std.specs.Prelude.{filter_map, ◌==◌}
 use Rattle.std.specs.Bool.{then_some}

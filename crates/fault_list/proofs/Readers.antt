@@ -80,11 +80,11 @@ module _ (site : ℕ → Site) where
 -- ---- the readers of a circuit
 
 module _ (c : Circuit) where
-  -- the pins that read a line, of the gates from a line on
+  -- the pins that read a line, of the gates starting at a line
   pub pin_readers : ℕ → ℕ → ℕ → List Site
   pin_readers first count line = flat_map (λ gate. map (Pin gate) (places_of line (pins_of c gate))) (range_with_len first count)
 
-  -- each line has the pins of so many gates that read it
+  -- each line has the pins of the first `count` gates that read it
   pub record HasGates (count : ℕ) (found : List (List Site)) : Type 0 where
     pub whole : length found ≡ line_count c
     pub each : (line : ℕ) → line < line_count c → get_or found line [] ≡ pin_readers c.sources count line

@@ -19,7 +19,7 @@ use Rattle.fault_list.specs.Scope.{AreMarksOfTest, AreReachedMarked, MarksLines}
 
 -- ---- back along the order
 
--- the marks are right as far as they go, and closed at the gates from a place of the order on
+-- the marks are right as far as they go, and closed at the gates starting at a place of the order
 pub record RelevantFrom (c : Circuit) (f g : Fault) (order : List ℕ) (i : ℕ) (marks : List Bool) : Type 0 where
   pub whole : length marks ≡ line_count c
   pub sound : (line : ℕ) → bit_at marks line ≡ true → is_relevant c f g line ≡ true

@@ -17,7 +17,7 @@ use Rattle.net_model.proofs.Copies.{All-at}
 use Rattle.net_model.proofs.Orders.{range_with_len_more}
 
 module _ (c : Circuit) where
-  -- the destinations of a line among those of all lines
+  -- the destinations of a line, among those of all lines
   pub destinations_at : (line : ℕ) (all : List (List Site)) → line < line_count c → all ≡ map (destinations c) (all_lines c) → get_or all line [] ≡ destinations c line
   destinations_at line all h e = ap (λ xs. get_or xs line []) e ∙ get_or-map-range_with_len (destinations c) 0 (line_count c) line line [] h (omega arith)
 

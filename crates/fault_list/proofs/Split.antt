@@ -35,7 +35,7 @@ any-or : {A : Type 0} (test other : A → Bool) (xs : List A) → (list_any test
 any-or test other [] = refl
 any-or test other (x ∷ xs) = or_exchange (test x) (list_any test xs) (other x) (list_any other xs) ∙ ap (λ b. (test x || other x) || b) (any-or test other xs)
 
--- ---- a line is reached where it is the first or reads a line that is
+-- ---- a line is reached if it is the first or reads a line that is reached
 
 module _ (c : Circuit) (a : IsAcyclic c) where
   leads_step : (line : ℕ) (first : Option ℕ)
@@ -58,7 +58,7 @@ module _ (c : Circuit) (a : IsAcyclic c) where
 
 -- ---- along the order
 
--- the sources and the first so many gates have their marks
+-- the sources and the first `i` gates of the order have their marks
 pub record SplitSoFar (c : Circuit) (f g : Fault) (order : List ℕ) (i : ℕ) (marks : List Bool) : Type 0 where
   pub whole : length marks ≡ line_count c
   pub sources : (line : ℕ) → line < c.sources → bit_at marks line ≡ is_split c f g line

@@ -29,7 +29,7 @@ stuck_of sites place site false e =
     let parity : (2 * place + 0) % 2 ≡ 0 = omega arith in
     stuck_at sites (2 * place + 0) site (rw half e) ∙ ap (λ n. Some (Stuck site (eqb n 1))) parity
 
--- the site that a number stands for
+-- the site of the fault with a number
 pub site_of : (sites : List Site) (number : ℕ) (site : Site) (bit : Bool) → slice_get (flat_map both_stuck sites) number ≡ Some (Stuck site bit)
     → (place : ℕ) × (slice_get sites place ≡ Some site) × (number ≡ 2 * place + from_bool bit)
 site_of [] number site bit e = cc

@@ -63,7 +63,7 @@ slot_is starts site slot s =
     let below : nat_lt (get_or starts (site_row site).0 0 + (site_row site).1) (get_or starts ((site_row site).0 + 1) 0) ≡ true = let h = s.below in let e = s.here in grind (arith, nat_tests) in
     (λ i. if row i then then_some (below i) (get_or starts (site_row site).0 0 + (site_row site).1) else None) ∙ ap Some s.here
 
--- two sites have different slots
+-- two different sites have different slots
 one_site : (starts : List ℕ) → IsRising starts → (s t : Site) (slot : ℕ) → slot_of starts s ≡ Some slot → slot_of starts t ≡ Some slot → s ≡ t
 one_site starts rising s t slot e f =
     let a = is_slot starts s slot e in
@@ -88,7 +88,7 @@ slice_get-set_other xs i x j y ne e =
     ∙ ap Some (get_or-set_other xs i j x 0 ne ∙ get_or_from_slice_get xs j y 0 e)
 
 module _ (starts : List ℕ) (sites : List Site) where
-  -- the slots of the first so many sites have their places
+  -- the slots of the first sites have their places
   abbrev pub PlacedBelow : ℕ → List ℕ → Type 0
   PlacedBelow count places = (place : ℕ) (site : Site) → place < count → slice_get sites place ≡ Some site → option_and_then (slice_get places) (slot_of starts site) ≡ Some place
 
@@ -116,7 +116,7 @@ module _ (starts places : List ℕ) (sites : List Site) (are : ArePlaces starts 
   pub no_place : option_and_then (slice_get places) (slot_of starts site) ≡ None → IsPlaceOf sites site None
   no_place none place = (λ e. absurd (none-some place e), λ there. absurd (none-some place (sym none ∙ are place site there)))
 
-  -- the place that stands there, with a test of whether the site does at that place
+  -- the place that the slot has, and a test of whether the site is at that place
   pub place_if : (found : ℕ) → option_and_then (slice_get places) (slot_of starts site) ≡ Some found → (test : Bool)
       → (test ≡ true → slice_get sites found ≡ Some site) → (slice_get sites found ≡ Some site → test ≡ true) → IsPlaceOf sites site (then_some test found)
   place_if found at true right passes place = (λ e. ap (slice_get sites) (sym (same_Some found place e)) ∙ right refl, λ there. sym at ∙ are place site there)
@@ -230,7 +230,7 @@ module _ (c : Circuit) where
       let row : (site_row site).0 + 1 ≤ line_count c + 1 = omega (arith, s.row, row_count) in
       omega (arith, s.below, is_rising ((site_row site).0 + 1) (line_count c + 1) row (omega (arith, row_count)))
 
-  -- ---- the same of a list of starts that is the circuit's
+  -- ---- the same for a list of starts that is the circuit's
 
   pub rising_table : (starts : List ℕ) → starts ≡ starts_of → IsRising starts
   rising_table starts e = subst IsRising (sym e) is_rising

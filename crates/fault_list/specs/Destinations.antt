@@ -11,7 +11,7 @@ abbrev pub reader_site : Readers → ℕ → Site
 reader_site (Gate gate) place = Pin gate place
 reader_site Positions place = Position place
 
--- Each line has these readers besides its destinations so far, where the readers read these lines.
+-- Each line has, after its destinations so far, the readers that read it. `lines` are the lines that the readers read.
 pub record AddsReaders (site : ℕ → Site) (lines : List ℕ) (old new : List (List Site)) : Type 0 where
   pub whole : length new ≡ length old
   pub each : (line : ℕ) → line < length old → slice_index_or new line [] ≡ slice_index_or old line [] ++ map site (places_of line lines)

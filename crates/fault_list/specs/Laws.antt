@@ -15,7 +15,7 @@ abbrev pub UnsplitAgree : Type 0
 UnsplitAgree = (c : Circuit) (f g : Fault) (v x y : List Bool) (line : ℕ) → IsCircuit c → Agrees c f v x → Agrees c g v y
     → line < line_count c → is_split c f g line ≡ false → bit_at x line ≡ bit_at y line
 
--- a position that isn't reached shows the same under both
+-- a position that isn't reached shows the same under both faults
 abbrev pub UnreachedAgree : Type 0
 UnreachedAgree = (c : Circuit) (f g : Fault) (v x y : List Bool) (at : ℕ) → IsCircuit c → Agrees c f v x → Agrees c g v y
     → at < length c.positions → is_reached c f g at ≡ false → bit_at (shown_bits c f x) at ≡ bit_at (shown_bits c g y) at

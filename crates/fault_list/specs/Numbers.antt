@@ -1,4 +1,4 @@
--- What the sites of a list of faults say.
+-- The faults that a list of sites gives, and their numbers.
 use Rattle.std.specs.Prelude.{ℕ, ◌<◌, ◌^◌, List, ◌∷◌, flat_map, length}
 use Rattle.net_model.specs.declared.fault.Site.{Site}
 use Rattle.net_model.specs.declared.fault.Fault.{Fault}
@@ -10,7 +10,7 @@ use Rattle.fault_list.specs.Slots.{ArePlaces}
 abbrev pub faults_at : List Site → List Fault
 faults_at sites = Free ∷ flat_map both_stuck sites
 
--- There are not too many sites for their numbers, and the table has the place of each.
+-- There are fewer than 2^26 sites, and the table has the place of each.
 pub record HasSiteNumbers (starts places : List ℕ) (sites : List Site) : Type 0 where
   pub few : length sites < 2 ^ 26
   pub places_are : ArePlaces starts places sites

@@ -6,7 +6,7 @@ use Rattle.net_model.specs.declared.fault.Site.{Site}
 use Rattle.net_model.specs.declared.fault.Site.TheVariants.{Stem, Pin, Position}
 use Rattle.net_model.specs.Circuit.{Circuit, pins_of}
 
--- the row of a site, and how far from the row's start it is
+-- the row of a site, and its distance from the row's start
 abbrev pub site_row : Site → ℕ × ℕ
 site_row (Stem line) = (line + 1, 0)
 site_row (Pin gate pin) = (gate + 1, pin + 1)
@@ -18,12 +18,12 @@ site_row_start c zero = 0
 site_row_start c (suc zero) = length c.positions
 site_row_start c (suc (suc line)) = site_row_start c (suc line) + (1 + length (pins_of c line))
 
--- the slot of a site in a table whose rows start there
+-- the slot of a site in a table with these starts of rows, if it has one
 abbrev pub slot_of : List ℕ → Site → Option ℕ
 slot_of starts site = if nat_lt ((site_row site).0 + 1) (length starts)
     then then_some (nat_lt (slice_index starts (site_row site).0 + (site_row site).1) (slice_index starts ((site_row site).0 + 1))) (slice_index starts (site_row site).0 + (site_row site).1)
     else None
 
--- The slot of each site has its place.
+-- The slot of each site has the site's place.
 abbrev pub ArePlaces : List ℕ → List ℕ → List Site → Type 0
 ArePlaces starts places sites = (place : ℕ) (site : Site) → slice_get sites place ≡ Some site → option_and_then (slice_get places) (slot_of starts site) ≡ Some place

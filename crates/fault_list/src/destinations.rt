@@ -8,14 +8,14 @@ ghost use Rattle.fault_list.specs.Destinations.{reader_site, AddsReaders};
 use net_model::{Circuit, GrowingLists, Site};
 use std::alloc::{AllocError, Global};
 
-// Where lines are read: at the pins of a line's gate, or at the observed positions.
+// Where lines are read: at the pins of the gate of a line, or at the observed positions.
 #[derive(Clone, Copy)]
 pub(crate) enum Readers {
     Gate(u32),
     Positions,
 }
 
-// The destinations of each line, gate pins first.
+// Returns the destinations of each line, gate pins first.
 pub(crate) fn destinations(
     alloc: Global,
     circuit: &Circuit,
@@ -31,7 +31,7 @@ pub(crate) fn destinations(
     Ok(found)
 }
 
-// Each reader added to the destinations of the line that it reads.
+// Adds each reader to the destinations of the line that it reads.
 fn add_readers(
     found: &mut GrowingLists<Site>,
     readers: Readers,
@@ -47,7 +47,6 @@ fn add_readers(
     Ok(())
 }
 
-// The site of one of the readers.
 fn reader_site(readers: Readers, place: u32) -> Site
     ensures { result ≡ reader_site readers place }
 {

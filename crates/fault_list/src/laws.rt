@@ -1,4 +1,5 @@
-//! Laws of the numbers of faults and of the scope of a pair: each function has an empty body, and its contract is the law.
+//! Laws of the numbers of faults and of the scope of a pair: each function has an empty body, and its contract is the
+//! law.
 
 ghost use Rattle.fault_list.specs.Laws.{OneNumber, UnsplitAgree, UnreachedAgree};
 

@@ -9,9 +9,9 @@ ghost use Rattle.fault_list.specs.Names.{fault_name, site_fields};
 use net_model::{Circuit, Design, Fault, Site};
 use std::alloc::{AllocError, Global};
 
-/// The name of a fault: `free`, or the kind of its site, the names and numbers that tell where it is, and the stuck
-/// value, parted by one blank each. Kind `S` has a line, `G` the line that a pin reads, the gate and the pin, and `O`
-/// the observed line and the position.
+/// Returns the name of a fault: `free`, or the kind of its site, the names and numbers that say where it is, and the
+/// stuck value, with one blank between two of them. Kind `S` has a line; `G` the line that a pin reads, the gate and
+/// the pin; and `O` the observed line and the position.
 pub fn name_text(alloc: Global, design: &Design, fault: &Fault) -> Result<Vec<u8>, AllocError>
     requires fault { IsFaultOf design.now.circuit fault.now }
     requires names { length design.now.names ≡ line_count design.now.circuit }
@@ -27,7 +27,7 @@ pub fn name_text(alloc: Global, design: &Design, fault: &Fault) -> Result<Vec<u8
     }
 }
 
-// The name of a fault but for its value.
+// Returns the name of a fault without its value.
 fn site_text(alloc: Global, design: &Design, site: Site) -> Result<Vec<u8>, AllocError>
     requires fault { IsFaultOf design.now.circuit (Fault.Stuck site false) }
     requires names { length design.now.names ≡ line_count design.now.circuit }
@@ -38,7 +38,7 @@ fn site_text(alloc: Global, design: &Design, site: Site) -> Result<Vec<u8>, Allo
     Ok(text)
 }
 
-// Its fields, one blank between them.
+// Adds the fields of a site, with one blank between two of them.
 fn add_site(text: &mut Vec<u8>, design: &Design, site: Site) -> Result<(), AllocError>
     requires fault { IsFaultOf design.now.circuit (Fault.Stuck site false) }
     requires names { length design.now.names ≡ line_count design.now.circuit }
@@ -64,7 +64,7 @@ fn add_site(text: &mut Vec<u8>, design: &Design, site: Site) -> Result<(), Alloc
     }
 }
 
-// The line that a pin of a gate reads.
+// Returns the line that a pin of a gate reads.
 fn read_line(circuit: &Circuit, gate: u32, pin: u32) -> u32
     requires { pin < length (pins_of circuit.now gate) }
     ensures line { result ≡ slice_index (pins_of circuit.now gate) pin }
@@ -74,7 +74,7 @@ fn read_line(circuit: &Circuit, gate: u32, pin: u32) -> u32
     circuit.gate(gate).pins.as_slice()[pin as usize]
 }
 
-// A blank and a field.
+// Adds a blank and a field.
 fn add_field(text: &mut Vec<u8>, field: &[u8]) -> Result<(), AllocError>
     ensures { OnOk result (text.new.items ≡ text.old.items ++ 32 ∷ field.now) }
 {
@@ -82,7 +82,7 @@ fn add_field(text: &mut Vec<u8>, field: &[u8]) -> Result<(), AllocError>
     text.extend_from_slice(field)
 }
 
-// A blank and the decimal digits of a number.
+// Adds a blank and the decimal digits of a number.
 fn add_number(text: &mut Vec<u8>, number: u32) -> Result<(), AllocError>
     ensures { OnOk result (text.new.items ≡ text.old.items ++ 32 ∷ decimal number) }
 {

@@ -11,7 +11,7 @@ use net_model::{Circuit, Fault, GrowingLists, Site};
 use std::alloc::{AllocError, Global};
 use std::marker::Model;
 
-// From so many destinations on each is a branch.
+// A line with at least this many destinations has each of them as a branch.
 const FAN_OUT: usize = 2;
 
 /// The faults of a circuit in order of their numbers. Number 0 is the fault-free circuit.
@@ -34,7 +34,7 @@ impl Model for FaultList {
     ghost invariant = { λ l. HasSiteNumbers l.starts.items l.places.items l.sites.items };
 }
 
-/// All faults of a circuit: fewer than 134,217,728, number 0 included.
+/// Returns all faults of a circuit: fewer than 2^27, number 0 included.
 pub fn list(alloc: Global, circuit: &Circuit) -> Result<FaultList, AllocError>
     ensures faults { IfOk result (λ listed. listed ≡ faults circuit.now) }
     ensures stand { IfOk result (λ listed. All (IsFaultOf circuit.now) listed) }
@@ -51,7 +51,7 @@ pub fn list(alloc: Global, circuit: &Circuit) -> Result<FaultList, AllocError>
 }
 
 impl FaultList {
-    /// How many numbers there are, number 0 included.
+    /// Returns how many numbers there are, number 0 included.
     pub fn len(&self) -> u32
         ensures value { result ≡ length self.now }
         ensures few { result < 2 ^ 27 }
@@ -59,7 +59,7 @@ impl FaultList {
         1 + 2 * self.sites.len() as u32
     }
 
-    /// The fault with a number.
+    /// Returns the fault with a number.
     pub fn get(&self, number: u32) -> Fault
         requires { number < length self.now }
         ensures value { slice_get self.now number ≡ Some result }
@@ -73,7 +73,8 @@ impl FaultList {
         Fault::Stuck(sites[(place / 2) as usize], place % 2 == 1)
     }
 
-    /// The number of a fault, if the list has it. A branch of a line with one destination is in no list.
+    /// Returns the number of a fault, or none exactly if the list doesn't have the fault. A branch of a line with one
+    /// destination is in no list.
     pub fn number_of(&self, fault: &Fault) -> Option<u32>
         ensures { (number : ℕ) → (result ≡ Some number) ↔ (slice_get self.now number ≡ Some fault.now) }
     {
@@ -88,7 +89,7 @@ impl FaultList {
     }
 }
 
-// The sites of all lines, in order of the list.
+// Returns the sites of all lines, in order of the list.
 fn sites(
     alloc: Global,
     circuit: &Circuit,

@@ -12,10 +12,10 @@ use net_model::{Circuit, Fault, Site};
 use std::alloc::{AllocError, Global};
 use std::marker::Model;
 
-/// What a pair of faults can change. A line is split where one of the faults reaches it, and a position is reached
-/// where it shows a split line or is the site of one of the faults. The lines of reached positions are relevant,
-/// and so are all lines that lead to them. The program has scopes from `pair_scope`, which keeps its space from pair to
-/// pair: this one is for tests and for callers from outside.
+/// What a pair of faults can change. A line is split if one of the faults reaches it. A position is reached if it shows
+/// a split line or is the site of one of the faults. The lines of reached positions are relevant, and so are all lines
+/// that lead to them. The program has scopes from `pair_scope`, which keeps its space from pair to pair; this one is
+/// for tests and for callers from outside.
 #[derive(Drop)]
 pub struct Scope {
     split: Vec<bool>,
@@ -32,7 +32,7 @@ impl Model for Scope {
 }
 
 impl Scope {
-    /// The scope of two faults of a circuit.
+    /// Returns the scope of two faults of a circuit.
     pub fn of(alloc: Global, circuit: &Circuit, f: &Fault, g: &Fault) -> Result<Scope, AllocError>
         ensures { IfOk result (IsScopeOf circuit.now f.now g.now) }
     {
@@ -46,7 +46,7 @@ impl Scope {
         })
     }
 
-    /// Whether a line is split.
+    /// Returns whether a line is split.
     pub fn split(&self, line: u32) -> bool
         requires { line < length self.now.split }
         ensures { result ≡ bit_at self.now.split line }
@@ -54,7 +54,7 @@ impl Scope {
         self.split[line as usize]
     }
 
-    /// Whether a line is relevant.
+    /// Returns whether a line is relevant.
     pub fn relevant(&self, line: u32) -> bool
         requires { line < length self.now.relevant }
         ensures { result ≡ bit_at self.now.relevant line }
@@ -62,7 +62,7 @@ impl Scope {
         self.relevant[line as usize]
     }
 
-    /// Whether a position is reached.
+    /// Returns whether a position is reached.
     pub fn reached(&self, position: u32) -> bool
         requires { position < length self.now.reached }
         ensures { result ≡ bit_at self.now.reached position }
@@ -71,7 +71,7 @@ impl Scope {
     }
 }
 
-// Which lines are split, from the sources onward.
+// Returns which lines are split, found from the sources onward.
 fn split_lines(
     alloc: Global,
     circuit: &Circuit,
@@ -89,7 +89,7 @@ fn split_lines(
     Ok(marks)
 }
 
-// Which lines are the first that one of the faults changes.
+// Returns which lines are the first that one of the faults can change.
 fn first_lines(
     alloc: Global,
     circuit: &Circuit,
@@ -105,7 +105,7 @@ fn first_lines(
     Ok(marks)
 }
 
-// Which positions are reached.
+// Returns which positions are reached.
 fn reached_positions(
     alloc: Global,
     circuit: &Circuit,
@@ -124,7 +124,7 @@ fn reached_positions(
     Ok(marks)
 }
 
-// Which lines are relevant, from the reached positions back.
+// Returns which lines are relevant, found from the reached positions back.
 fn relevant_lines(
     alloc: Global,
     circuit: &Circuit,
@@ -146,7 +146,7 @@ fn relevant_lines(
     Ok(marks)
 }
 
-// The lines of reached positions.
+// Returns which lines are those of reached positions.
 fn shown_lines(alloc: Global, circuit: &Circuit, reached: &[bool]) -> Result<Vec<bool>, AllocError>
     requires { length reached.now ≡ length circuit.now.positions }
     ensures { IfOk result (λ marks. AreReachedMarked circuit.now.positions reached.now (line_count circuit.now) marks.items) }
@@ -160,7 +160,6 @@ fn shown_lines(alloc: Global, circuit: &Circuit, reached: &[bool]) -> Result<Vec
     Ok(marks)
 }
 
-// Marks these lines.
 fn mark_lines(marks: &mut Vec<bool>, lines: &[u32])
     requires { All (λ line. line < length marks.old.items) lines.now }
     ensures { MarksLines lines.now marks.old.items marks.new.items }
@@ -170,7 +169,6 @@ fn mark_lines(marks: &mut Vec<bool>, lines: &[u32])
     }
 }
 
-// Whether one of these lines is marked.
 fn is_any_marked(marks: &[bool], lines: &[u32]) -> bool
     requires { All (λ line. line < length marks.now) lines.now }
     ensures { result ≡ list_any (bit_at marks.now) lines.now }
@@ -178,7 +176,7 @@ fn is_any_marked(marks: &[bool], lines: &[u32]) -> bool
     lines.iter().any(|line| marks[*line as usize])
 }
 
-// Whether a line is the first that one of the faults can change.
+// Returns whether a line is the first that one of the faults can change.
 fn begins_at(f: &Fault, g: &Fault, line: u32) -> bool
     ensures { result ≡ begins_at f.now g.now line }
 {
@@ -194,7 +192,7 @@ fn is_first_changed(fault: &Fault, line: u32) -> bool
     }
 }
 
-// Whether a position is the site of one of the faults.
+// Returns whether a position is the site of one of the faults.
 fn is_site(f: &Fault, g: &Fault, position: u32) -> bool
     ensures { result ≡ (is_some (stuck_position f.now position) || is_some (stuck_position g.now position)) }
 {

@@ -1,5 +1,5 @@
-//! A table that finds the place of a site among the sites of a list. It has a row for the observed positions and
-//! then a row for each line, with its stem and the pins of its gate.
+//! A table that finds the place of a site among the sites of a list. It has a row for the observed positions, and then
+//! a row for each line, with its stem and the pins of its gate.
 
 ghost use Rattle.std.specs.Prelude.{◌≡◌, ◌<◌, ◌+◌, ◌↔◌, ℕ, [], IfOk, OnOk, Some, flat_map, length, map, slice_get};
 ghost use Rattle.std.specs.List.{range_with_len};
@@ -10,7 +10,7 @@ ghost use Rattle.fault_list.specs.Slots.{site_row, site_row_start, slot_of, AreP
 use net_model::{Circuit, Site};
 use std::alloc::{AllocError, Global};
 
-// Where each row starts, and where the last one ends.
+// Returns where each row starts, and where the last one ends.
 pub(crate) fn starts(alloc: Global, circuit: &Circuit) -> Result<Vec<u32>, AllocError>
     ensures { IfOk result (λ found. found.items ≡ map (site_row_start circuit.now) (range_with_len 0 (line_count circuit.now + 2))) }
 {
@@ -19,7 +19,7 @@ pub(crate) fn starts(alloc: Global, circuit: &Circuit) -> Result<Vec<u32>, Alloc
     Ok(starts)
 }
 
-// Adds them to none.
+// Adds the starts to an empty vector.
 fn add_starts(starts: &mut Vec<u32>, circuit: &Circuit) -> Result<(), AllocError>
     requires { starts.old.items ≡ [] }
     ensures { OnOk result (starts.new.items ≡ map (site_row_start circuit.now) (range_with_len 0 (line_count circuit.now + 2))) }
@@ -34,7 +34,7 @@ fn add_starts(starts: &mut Vec<u32>, circuit: &Circuit) -> Result<(), AllocError
     Ok(())
 }
 
-// How many pins the gate of a line has, if a gate drives the line.
+// Returns how many pins the gate of a line has, or 0 if no gate drives the line.
 fn pin_count(circuit: &Circuit, line: u32) -> u32
     requires { line < line_count circuit.now }
     ensures { result ≡ length (pins_of circuit.now line) }
@@ -45,7 +45,7 @@ fn pin_count(circuit: &Circuit, line: u32) -> u32
     circuit.gate(line).pins.as_slice().len() as u32
 }
 
-// The place of each site in the slot of the site.
+// Returns the table: at the slot of each site, its place in the list.
 pub(crate) fn places(
     alloc: Global,
     circuit: &Circuit,
@@ -66,7 +66,7 @@ pub(crate) fn places(
     Ok(places)
 }
 
-// The place of a site in the list, if it is there.
+// Returns the place of a site in the list, if it is there.
 pub(crate) fn place_of(starts: &[u32], places: &[u32], sites: &[Site], site: Site) -> Option<u32>
     requires { ArePlaces starts.now places.now sites.now }
     ensures { (place : ℕ) → (result ≡ Some place) ↔ (slice_get sites.now place ≡ Some site) }
@@ -77,7 +77,7 @@ pub(crate) fn place_of(starts: &[u32], places: &[u32], sites: &[Site], site: Sit
     (found == site).then_some(place)
 }
 
-// The slot of a site, if the table has one.
+// Returns the slot of a site, if the table has one.
 fn slot_of(starts: &[u32], site: Site) -> Option<usize>
     ensures { result ≡ slot_of starts.now site }
 {
@@ -89,7 +89,7 @@ fn slot_of(starts: &[u32], site: Site) -> Option<usize>
     (slot < starts[row + 1] as usize).then_some(slot)
 }
 
-// The row of a site, and how far from the row's start it is.
+// Returns the row of a site, and its distance from the row's start.
 fn row_of(site: Site) -> (usize, usize)
     ensures { result ≡ site_row site }
 {

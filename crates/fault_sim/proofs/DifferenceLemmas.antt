@@ -61,7 +61,7 @@ answer_at c is f v answer bits a agrees position h =
     ap (λ xs. bit_at xs position) (a.shows ∙ ap (shown_bits c f) (Agrees-unique c is f v a.bits bits a.agrees agrees))
     ∙ seen_at (stuck_position f) bits c.positions position h
 
--- the answers differ where what the position shows is turned
+-- the answers differ at a position exactly if what it shows is turned
 difference_is : (c : Circuit) → IsCircuit c → (f : Fault) (v bits free : List Bool) → Agrees c f v bits → Agrees c Free v free → (position : ℕ) → position < length c.positions → (bit : Bool)
     → unwrap_or (stuck_position f position) (bit_at bits (get_or c.positions position 0)) ≡ inverted (bit_at free (get_or c.positions position 0)) bit → IsDifference c f v position bit
 difference_is c is f v bits free faulty plain position h bit turns answer without a b =
@@ -71,7 +71,8 @@ difference_is c is f v bits free faulty plain position h bit turns answer withou
     let P : Bool → Bool → Type 0 = λ x y. IsTrue bit ↔ (x ≢ y) in
     subst (λ y. P (bit_at answer position) y) (sym same) (subst (λ x. P x (bit_at free line)) turned (inverted_differs (bit_at free line) bit))
 
--- a stuck stem agrees where its line has the stuck bit and the gates give all other lines theirs
+-- a valuation agrees under a stuck stem if the stem's line has the stuck bit and all other lines have what gates give
+-- them
 agrees_stem : (c : Circuit) (v bits : List Bool) (head : ℕ) (value : Bool) → length bits ≡ line_count c → bit_at bits head ≡ value
     → ((line : ℕ) → line < line_count c → line ≢ head → bit_at bits line ≡ driven_bit c Free v bits line) → Agrees c (Stuck (Stem head) value) v bits
 agrees_stem c v bits head value whole here others =
@@ -192,7 +193,7 @@ no_differences good is at lanes rows unasked whole none =
       past = λ position lane h above within. none position (omega (arith, whole)) lane within;
     }
 
--- ---- lanes that are asked and have a vector
+-- ---- lanes that are given and have a vector
 
 module _ (good : GoodSim) (lanes live turned : List Bool) (lives : IsLive good live) (both : (lane : ℕ) → lane < LANES → bit_at turned lane ≡ (bit_at lanes lane && bit_at live lane)) where
   pub asked_live : (lane : ℕ) → lane < LANES → lane < length (vectors_of good) → bit_at turned lane ≡ bit_at lanes lane

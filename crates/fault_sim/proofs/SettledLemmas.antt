@@ -41,7 +41,7 @@ none_true row some iff e lane h = false_from_ne_true (bit_at row lane) (λ t. tr
 
 -- ---- the right side of an equation
 
--- it stays where the lines that the gate reads stay
+-- it stays if the lines that the gate reads stay
 stays : (c : Circuit) (v x y : List Bool) (line : ℕ) → ((read : ℕ) → Feeds c read line → bit_at x read ≡ bit_at y read) → driven_bit c Free v x line ≡ driven_bit c Free v y line
 unfolding driven_bit
 stays c v x y line h = same_driven c Free Free v x y line (gate_at c line) (λ pin. refl) h
@@ -96,13 +96,13 @@ module _ (good : GoodSim) (is : IsCircuit good.circuit) (rows : List (List Bool)
       ∙ stays good.circuit (vector_at good lane) (turned_bits free rows lane) (turned_bits free (set rows line row) lane) l
       (λ read m. sym (other_bits lane free read (pins_inside good.circuit is l read m) (λ own. unread (subst (λ r. Feeds good.circuit r l) own m))))
 
--- a line that keeps its row is settled where that row is what its gate gives
+-- a line that keeps its row is settled if the row is what its gate gives
 pub settled_same : (good : GoodSim) (rows : List (List Bool)) (line : ℕ) (row : List Bool) → line < length rows
     → ((lane : ℕ) (free : List Bool) → IsFreeLane good lane free → inverted (bit_at free line) (bit_at row lane) ≡ driven_bit good.circuit Free (vector_at good lane) (turned_bits free rows lane) line)
     → ((lane : ℕ) → lane < LANES → bit_at (get_or rows line []) lane ≡ bit_at row lane) → IsSettled good rows line
 settled_same good rows line row inside change same lane free at = turned_at free rows lane line inside ∙ ap (inverted (bit_at free line)) (same lane at.within) ∙ change lane free at
 
--- a gate that doesn't wait, once all readers of a line do, doesn't read it
+-- if all readers of a line wait, a gate that doesn't wait doesn't read it
 pub idle_unread : (c : Circuit) (w : Wiring) → IsWiring c w → (queue : List Bool) (line : ℕ) → ((n : ℕ) → Contains (get_or w.readers line []) n → is_pending queue n ≡ true) → (l : ℕ) → IsIdle w.order queue l → Feeds c line l → ⊥
 idle_unread c w wired queue line woken l idle feeds =
     let order = w.order in

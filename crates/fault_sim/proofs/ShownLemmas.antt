@@ -35,7 +35,7 @@ module _ (shown : List ℕ) (lines : List (List Bool)) where
           | inr ne ↦ known position h (sym (lowest.others position ne) ∙ idle)
         ]
 
--- what shows a listed line is marked, so the other positions show lines that aren't turned
+-- each position that shows a listed line is marked, so the other positions show lines that aren't turned
 pub unmarked_false : (c : Circuit) (w : Wiring) → IsWiring c w → (lines : List (List Bool)) (listed : List ℕ) → length lines ≡ line_count c → AreFalseBut listed lines
     → (position : ℕ) → position < length c.positions → ((line : ℕ) → Contains listed line → Contains (get_or w.showing line []) position → ⊥) → IsFalse (row_shown c.positions lines position)
 unmarked_false c w wired lines listed width others position h unmarked =

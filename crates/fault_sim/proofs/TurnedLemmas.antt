@@ -1,4 +1,4 @@
--- The bits of lines of which some are turned, and what readers see of them.
+-- The bits of lines if some are turned, and what readers see of them.
 use Rattle.std.proofs.Common.{◌≡◌, ℕ, ◌<◌, List, [], length, get_or, refl, arith}
 use Rattle.std.specs.Prelude.{Bool, true, false, ◌&&◌}
 use Rattle.std.proofs.lemmas.List.FromFn.{length-map-range_with_len, get_or-map-range_with_len}
@@ -14,7 +14,7 @@ pub turned_at : (free : List Bool) (rows : List (List Bool)) (lane line : ℕ) �
 unfolding turned_bits
 turned_at free rows lane line h = get_or-map-range_with_len (λ line. inverted (bit_at free line) (bit_at (get_or rows line []) lane)) 0 (length rows) line line false h (omega arith)
 
--- a bit is inverted to another where the two differ
+-- a bit that is inverted if it differs from another is the other
 pub inverted_to : (bit value : Bool) → inverted bit (inverted value bit && true) ≡ value
 inverted_to true true = refl
 inverted_to true false = refl

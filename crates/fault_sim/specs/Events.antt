@@ -1,4 +1,4 @@
--- A turned line under way: the gates that wait, and the lines that are settled.
+-- The state while the events of a turned line are followed: the gates that wait, and the lines that are settled.
 use Rattle.std.specs.Prelude.{◌≡◌, ◌≢◌, ℕ, ◌<◌, ◌≤◌, Bool, List, [], length, slice_index, slice_index_or}
 use Rattle.net_model.specs.Circuit.{line_count}
 use Rattle.net_model.specs.Answer.{bit_at}
@@ -9,15 +9,15 @@ use Rattle.fault_heads.specs.Turned.{IsFalsePast}
 use Rattle.fault_sim.specs.TurnedLines.{IsSettled}
 
 module _ (good : GoodSim) where
-  -- Each line but one is settled.
+  -- Each line except one is settled.
   abbrev pub AreOthersSettled : ℕ → List (List Bool) → Type 0
   AreOthersSettled but rows = (line : ℕ) → line < line_count good.circuit → line ≢ but → IsSettled good rows line
 
-  -- The same of each line whose gate doesn't wait.
+  -- Each line whose gate doesn't wait is settled, except one.
   abbrev pub AreIdleSettled : List ℕ → ℕ → List Bool → List (List Bool) → Type 0
   AreIdleSettled order but queue rows = (line : ℕ) → line < line_count good.circuit → line ≢ but → IsIdle order queue line → IsSettled good rows line
 
-  -- What was settled stays so, but for one line and where the gate waits now.
+  -- Each line that was settled is settled still, except one line and those whose gates wait now.
   abbrev pub StaySettled : List ℕ → ℕ → List Bool → List (List Bool) → List (List Bool) → Type 0
   StaySettled order but queue old new = (line : ℕ) → line < line_count good.circuit → line ≢ but → IsIdle order queue line → IsSettled good old line → IsSettled good new line
 

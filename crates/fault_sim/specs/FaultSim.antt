@@ -18,17 +18,19 @@ pub record FaultSim : Type 0 where
 abbrev pub lanes_at : FaultSim → ℕ → List Bool
 lanes_at sim position = slice_index_or sim.differences position []
 
--- The bit is true exactly where the fault's answer to the vector and the fault-free one differ at the position.
+-- The bit is true exactly if the fault's answer to the vector and the fault-free one differ at the position.
 abbrev pub IsDifference : Circuit → Fault → List Bool → ℕ → Bool → Type 0
 IsDifference c f v position bit = (answer free : List Bool) → IsAnswer c f v answer → IsAnswer c Free v free → IsTrue bit ↔ (bit_at answer position ≢ bit_at free position)
 
--- There is a row for each position. In the lanes of the vectors it says where the answers differ, and in the others it is false.
+-- There is a row for each position. In the lane of a vector it is true exactly if the fault's answer and the fault-free
+-- one differ at the position, and in all other lanes it is false.
 pub record AreDifferences (c : Circuit) (f : Fault) (vectors rows : List (List Bool)) : Type 0 where
   pub whole : length rows ≡ length c.positions
   pub live : (position lane : ℕ) → position < length c.positions → lane < length vectors → IsDifference c f (slice_index_or vectors lane []) position (bit_at (slice_index_or rows position []) lane)
   pub past : (position lane : ℕ) → position < length c.positions → length vectors ≤ lane → lane < LANES → bit_at (slice_index_or rows position []) lane ≡ false
 
--- There is a row for each position. In the lanes of the vectors it says where the answer with the head turned, if it is turned there, differs from the fault-free one; in the others it is false.
+-- There is a row for each position. In the lane of a vector it is true exactly if `lanes` has the lane and the answer
+-- with the head turned differs from the fault-free one at the position, and in all other lanes it is false.
 pub record AreTurnedDifferences (good : GoodSim) (head : Head) (lanes : List Bool) (rows : List (List Bool)) : Type 0 where
   pub whole : length rows ≡ length good.circuit.positions
   pub live : (position lane : ℕ) (free : List Bool) → position < length good.circuit.positions → IsFreeLane good lane free

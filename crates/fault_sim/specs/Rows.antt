@@ -20,6 +20,6 @@ IsFalse row = (lane : ℕ) → lane < LANES → bit_at row lane ≡ false
 abbrev pub IsTrueSomewhere : List Bool → Type 0
 IsTrueSomewhere row = (lane : ℕ) × (lane < LANES) × IsTrue (bit_at row lane)
 
--- All rows but those of these numbers are false.
+-- All rows are false except those of these numbers.
 abbrev pub AreFalseBut : List ℕ → List (List Bool) → Type 0
 AreFalseBut listed rows = (at : ℕ) → at < length rows → (Contains listed at → ⊥) → IsFalse (slice_index_or rows at [])

@@ -1,4 +1,5 @@
-//! A turned line is followed by events: only gates that read a changed line are evaluated, in an order of the circuit.
+//! Event-driven simulation of a turned line: only gates that read a changed line are evaluated, in an order of the
+//! circuit.
 
 ghost use Rattle.std.specs.Prelude.{◌≡◌, ◌≢◌, ℕ, ◌+◌, ◌<◌, ◌≤◌, ◌^◌, ◌⊎◌, true, false, [], length, All, AllPairs, slice_index, slice_index_or};
 ghost use Rattle.net_model.specs.Circuit.{line_count, Feeds};
@@ -15,7 +16,8 @@ use event_queue::NumberQueue;
 use net_model::{Circuit, Wiring};
 use word_sim::{GoodSim, Lanes};
 
-/// Turns a line in these lanes, where no line is turned yet, and settles all others. The line itself is never evaluated.
+/// Turns `line` in `lanes` and settles all other lines. No line is turned before the call. The line itself is never
+/// evaluated.
 pub(crate) fn turn_line(
     good: &GoodSim,
     live: Lanes,
@@ -99,7 +101,7 @@ pub(crate) fn mark_positions(circuit: &Circuit, lines: &Rows, marks: &mut Number
     }
 }
 
-/// Gives each marked position the row of the line that it shows, in ascending order.
+/// Gives each marked position, in ascending order, the row of the line that it shows, and clears the marks.
 pub(crate) fn show_positions(
     shown: &[u32],
     lines: &[Lanes],

@@ -1,4 +1,4 @@
-//! Rows of lanes that are cleared in time proportional to what was set.
+//! Rows of lanes that are cleared in time proportional to the number of rows that were set.
 
 ghost use Rattle.std.specs.Prelude.{◌≡◌, ◌<◌, ◌≤◌, [], ◌∷◌, ◌++◌, length, slice_set, slice_index_or, All, IfOk};
 ghost use Rattle.fault_sim.specs.Rows.{rows_with, AreFalseBut};
@@ -7,7 +7,7 @@ use std::alloc::{AllocError, Global};
 use std::marker::Model;
 use word_sim::Lanes;
 
-/// A row of lanes for each number, false but where it was set.
+/// A row of lanes for each number, false unless it was set.
 #[derive(Drop)]
 pub(crate) struct Rows {
     rows: Vec<Lanes>,
@@ -26,7 +26,7 @@ impl Model for Rows {
 }
 
 impl Rows {
-    /// This many rows, all false, with room to set this many of them.
+    /// Returns `count` rows, all false, with room to set `room` rows.
     pub(crate) fn new(alloc: Global, count: usize, room: usize) -> Result<Rows, AllocError>
         ensures count { IfOk result (λ rows. length rows.rows ≡ count) }
         ensures listed { IfOk result (λ rows. rows.listed ≡ []) }
@@ -54,7 +54,7 @@ impl Rows {
         self.rows[at as usize]
     }
 
-    /// The numbers whose rows were set.
+    /// Returns the numbers whose rows were set.
     pub(crate) fn listed(&self) -> &[u32]
         ensures value { result.now ≡ self.now.listed }
         ensures within { All (λ at. at < length self.now.rows) result.now }

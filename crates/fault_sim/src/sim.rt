@@ -18,8 +18,8 @@ use std::alloc::{AllocError, Global};
 use std::marker::Model;
 use word_sim::{GoodSim, LANES, Lanes};
 
-/// Where the answers under the fault that was injected last, or with the head that was turned last, differ from the fault-free
-/// ones, in each lane.
+/// Where the answers under the fault that was injected last, or with the head that was turned last, differ from the
+/// fault-free ones, in each lane.
 pub struct FaultSim<'a> {
     circuit: &'a Circuit,
     queue: NumberQueue,
@@ -28,8 +28,8 @@ pub struct FaultSim<'a> {
     positions: Rows,
 }
 
-// Written out, it is one step in the proof of each function that lets a simulator go, where a derived one is a step for
-// each vector in it.
+// Written by hand, since the proof of each function that drops a simulator then has one step for it; a derived drop
+// takes a step for each vector in it.
 impl Drop for FaultSim<'_> {
     fn drop(self) {
         let FaultSim {
@@ -54,7 +54,7 @@ impl<'a> Model for FaultSim<'a> {
 }
 
 impl<'a> FaultSim<'a> {
-    /// The simulator of a circuit's faults. Nothing differs before the first injection or turn.
+    /// Returns a simulator of the faults of `circuit`. Nothing differs before the first injection or turn.
     pub fn new(alloc: Global, circuit: &'a Circuit) -> Result<FaultSim<'a>, AllocError>
         ensures circuit { IfOk result (λ sim. sim.circuit ≡ circuit.now) }
         ensures whole { IfOk result (λ sim. length sim.differences ≡ length circuit.now.positions) }
@@ -71,8 +71,8 @@ impl<'a> FaultSim<'a> {
         })
     }
 
-    /// Evaluates a fault at the vectors of the block that the fault-free simulator ran last.
-    /// Only the fault's own gate and the gates that read a changed line are evaluated. It takes no memory.
+    /// Evaluates `fault` at the vectors of the block that `good` ran last. Only the fault's own gate and the gates that
+    /// read a changed line are evaluated. It takes no memory.
     pub fn inject(&mut self, good: &GoodSim, fault: &Fault)
         requires circuit { good.now.circuit ≡ self.old.circuit }
         requires ran { IsSome good.now.ran }
@@ -87,8 +87,8 @@ impl<'a> FaultSim<'a> {
         }
     }
 
-    /// Evaluates a head turned in these lanes, at the vectors of the block that the fault-free simulator ran last. Lanes with no
-    /// vector are left out. Only gates that read a changed line are evaluated, and never the head's own. It takes no memory.
+    /// Evaluates `head`, turned in `lanes`, at the vectors of the block that `good` ran last. Lanes without a vector
+    /// are left out. Only gates that read a changed line are evaluated, and never the head's own. It takes no memory.
     pub fn flip(&mut self, good: &GoodSim, head: Head, lanes: Lanes)
         requires circuit { good.now.circuit ≡ self.old.circuit }
         requires ran { IsSome good.now.ran }
@@ -99,7 +99,7 @@ impl<'a> FaultSim<'a> {
         self.flip_live(good, good.live(), head, lanes);
     }
 
-    // The same, where it is known which lanes have a vector.
+    // Does what `flip` does. `live` has the lanes that have a vector.
     fn flip_live(&mut self, good: &GoodSim, live: Lanes, head: Head, lanes: Lanes)
         requires circuit { good.now.circuit ≡ self.old.circuit }
         requires live { IsLive good.now live }
@@ -124,7 +124,7 @@ impl<'a> FaultSim<'a> {
         }
     }
 
-    // Nothing differs from now on.
+    // Makes nothing differ.
     fn clear(&mut self)
         ensures circuit { self.new.circuit ≡ self.old.circuit }
         ensures whole { length self.new.differences ≡ length self.new.circuit.positions }
@@ -135,7 +135,7 @@ impl<'a> FaultSim<'a> {
         self.positions.clear();
     }
 
-    /// In which lanes the answers differ at a position. A lane with no vector is false.
+    /// Returns in which lanes the answers differ at `position`. A lane without a vector is false.
     pub fn differs(&self, position: u32) -> Lanes
         requires { position < length self.now.circuit.positions }
         ensures { result ≡ lanes_at self.now position }
@@ -143,7 +143,7 @@ impl<'a> FaultSim<'a> {
         self.positions.row(position)
     }
 
-    /// The positions that differ in some lane, ascending.
+    /// Returns the positions that differ in some lane, ascending.
     pub fn differing_positions(&self) -> &[u32]
         ensures within { All (λ position. position < length self.now.circuit.positions) result.now }
         ensures exactly { (position : ℕ) → position < length self.now.circuit.positions → Contains result.now position ↔ IsTrueSomewhere (lanes_at self.now position) }
@@ -152,7 +152,7 @@ impl<'a> FaultSim<'a> {
         self.positions.listed()
     }
 
-    /// In which lanes the answers differ at all.
+    /// Returns in which lanes the answers differ at some position.
     pub fn any_difference(&self) -> Lanes
         ensures { (lane : ℕ) → lane < LANES → IsTrue (bit_at result lane) ↔ IsSomeDifference self.now lane }
     {

@@ -1,4 +1,4 @@
-//! What gates make of lines of which some are turned, in all lanes at once.
+//! The values of gates in all lanes at once, if some lines are turned.
 
 ghost use Rattle.std.specs.Prelude.{◌≡◌, ℕ, ◌<◌, ◌≤◌, ◌^◌, Bool, List, length, All, IsTrue};
 ghost use Rattle.net_model.specs.declared.fault.Fault.TheVariants.{Free};
@@ -11,7 +11,7 @@ ghost use Rattle.fault_sim.specs.TurnedLines.{turned_bits, read_bits};
 use net_model::{Fold, Gate, Operation};
 use word_sim::{GoodSim, Lanes};
 
-// The bits of a line.
+// Returns the fault-free bits of `line`, turned in the lanes of its row.
 fn line_lanes(good: &GoodSim, rows: &[Lanes], line: u32) -> Lanes
     requires width { length rows.now ≡ line_count good.now.circuit }
     requires line { line < length rows.now }
@@ -20,7 +20,6 @@ fn line_lanes(good: &GoodSim, rows: &[Lanes], line: u32) -> Lanes
     good.lanes(line).xor(rows[line as usize])
 }
 
-// What a fold makes of pins.
 fn folded_lanes(good: &GoodSim, rows: &[Lanes], fold: Fold, pins: &[u32]) -> Lanes
     requires width { length rows.now ≡ line_count good.now.circuit }
     requires inside { All (λ pin. pin < length rows.now) pins.now }
@@ -33,7 +32,7 @@ fn folded_lanes(good: &GoodSim, rows: &[Lanes], fold: Fold, pins: &[u32]) -> Lan
     lanes
 }
 
-// The pin that the first one chooses.
+// Returns what is seen by the pin that the first pin chooses.
 fn chosen_lanes(good: &GoodSim, rows: &[Lanes], pins: &[u32]) -> Lanes
     requires width { length rows.now ≡ line_count good.now.circuit }
     requires inside { All (λ pin. pin < length rows.now) pins.now }
@@ -45,7 +44,6 @@ fn chosen_lanes(good: &GoodSim, rows: &[Lanes], pins: &[u32]) -> Lanes
     line_lanes(good, rows, pins[0]).select(zero, one)
 }
 
-// The value of a gate on what its pins see.
 fn gate_lanes(good: &GoodSim, rows: &[Lanes], gate: &Gate) -> Lanes
     requires width { length rows.now ≡ line_count good.now.circuit }
     requires inside { All (λ pin. pin < length rows.now) gate.now.pins }
@@ -60,7 +58,7 @@ fn gate_lanes(good: &GoodSim, rows: &[Lanes], gate: &Gate) -> Lanes
     lanes.inverted(gate.kind.inverts())
 }
 
-/// In which live lanes a gate turns its line, from what it reads.
+/// Returns in which lanes with a vector the gate of `line` turns it, by the lines that the gate reads.
 pub(crate) fn line_change(good: &GoodSim, live: Lanes, rows: &[Lanes], line: u32) -> Lanes
     requires live { IsLive good.now live }
     requires width { length rows.now ≡ line_count good.now.circuit }

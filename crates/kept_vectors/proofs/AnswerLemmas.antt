@@ -1,4 +1,4 @@
--- Where the answer to a vector differs from the fault-free one says which it is.
+-- The answer to a vector is determined by where it differs from the fault-free one.
 use Rattle.std.proofs.Common.{◌≡◌, ◌≢◌, ◌↔◌, ℕ, ◌<◌, Bool, true, false, List, length, refl, sym, ◌∙◌, arith, IsTrue}
 use Rattle.std.proofs.lemmas.Bool.{false≢true}
 use Rattle.net_model.specs.declared.fault.Fault.{Fault}
@@ -28,7 +28,7 @@ same_bit : (x a b free : Bool) → IsTrue x ↔ (a ≢ free) → IsTrue x ↔ (b
 same_bit true a b free ha hb = both_other a b free (ha.0 refl) (hb.0 refl)
 same_bit false a b free ha hb = not_other a free (λ ne. false≢true (ha.1 ne)) ∙ sym (not_other b free (λ ne. false≢true (hb.1 ne)))
 
--- whether two bits differ from a third is the same where they are the same
+-- two bits that are the same differ alike from a third
 pub same_difference : (x y a b free : Bool) → IsTrue x ↔ (a ≢ free) → IsTrue y ↔ (b ≢ free) → a ≡ b → x ≡ y
 same_difference true true a b free ha hb e = refl
 same_difference false false a b free ha hb e = refl

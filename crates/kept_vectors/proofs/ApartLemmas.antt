@@ -11,7 +11,7 @@ use Rattle.kept_vectors.specs.Notes.{is_noted, AreAscending, AreNotedAlike}
 
 -- ---- one note in front
 
--- what comes behind the first note has higher positions
+-- what comes after the first note has higher positions
 behind : (x : Note) (xs : List Note) → AreAscending (x ∷ xs) → All (λ n. x.position < n.position) xs
 behind x xs up k d h = up 0 (suc k) d (omega arith) (omega (arith, h))
 
@@ -51,7 +51,7 @@ module _ (lane : ℕ) where
         none false b = refl
 
   module _ (x y : Note) (xs ys : List Note) (one : AreAscending (x ∷ xs)) (other : AreAscending (y ∷ ys)) where
-    -- the lower one stands alone
+    -- the lower position is noted by one list only
     pub alike_lower : x.position < y.position → AreNotedAlike lane (x ∷ xs) (y ∷ ys) ↔ ((bit_at x.lanes lane ≡ false) × AreNotedAlike lane xs (y ∷ ys))
     alike_lower less = (
       λ same.
@@ -92,7 +92,7 @@ xor_same false false e = refl
 one_more : (k : ℕ) → suc k ≡ k + 1
 one_more k = omega arith
 
--- from two places on the same is noted, and so far no lane is one
+-- The two rests note the same in the lane, and so far the lane has 0.
 abbrev pub SameFrom : ℕ → List Bool → List Note → List Note → Type 0
 SameFrom lane lanes one other = (bit_at lanes lane ≡ false) × AreNotedAlike lane one other
 
@@ -133,7 +133,7 @@ other_way lane lanes one other = (λ same. (same.0, λ position. sym (same.1 pos
 pub and_then : {A B C : Type 0} → A ↔ B → B ↔ C → A ↔ C
 and_then one two = (λ a. two.0 (one.0 a), λ c. one.1 (two.1 c))
 
--- the same of one list and none
+-- the same for one list and an empty one
 pub step_end : (lane : ℕ) (notes : List Note) (at : ℕ) (x : Note) (lanes new : List Bool) → AreAscending notes → at < length notes → x ≡ get_or notes at x → bit_at new lane ≡ (bit_at lanes lane || bit_at x.lanes lane)
     → SameFrom lane lanes (drop at notes) [] ↔ SameFrom lane new (drop (at + 1) notes) []
 step_end lane notes at x lanes new up h x_is is =
@@ -147,7 +147,7 @@ step_end lane notes at x lanes new up h x_is is =
       λ same. let both = or_parts (bit_at lanes lane) (bit_at x.lanes lane) (sym is ∙ same.0) in (both.0, λ position. without lane x rest up_front both.1 position ∙ same.1 position),
     )
 
--- where one list has come to its end, only the other's lanes count
+-- if one list has come to its end, only the other's lanes count
 pub at_end : (lane : ℕ) (lanes a b : List Bool) (xs ys : List Note) → (xs ≡ []) ⊎ (ys ≡ []) → (bit_at a lane ≡ false) ↔ AreNotedAlike lane xs [] → (bit_at b lane ≡ false) ↔ AreNotedAlike lane ys []
     → SameFrom lane lanes xs ys ↔ (((bit_at lanes lane || bit_at a lane) || bit_at b lane) ≡ false)
 at_end lane lanes a b xs ys end first second = (

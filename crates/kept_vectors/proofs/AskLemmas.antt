@@ -10,7 +10,7 @@ use Rattle.fault_heads.specs.declared.head.Turn.{Turn}
 use Rattle.net_model.specs.Circuit.{line_count}
 use Rattle.kept_vectors.specs.Notes.{place_of, IsTurnNeeded, IsNumberAsked}
 
--- A head is needed where it was.
+-- Each head is needed in all lanes in which it was needed.
 abbrev pub AreGrown : List (List Bool) → List (List Bool) → Type 0
 AreGrown needs new = (place lane : ℕ) → lane < LANES → bit_at (get_or needs place []) lane ≡ true → bit_at (get_or new place []) lane ≡ true
 

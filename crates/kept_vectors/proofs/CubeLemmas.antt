@@ -3,16 +3,16 @@ use Rattle.std.proofs.Common.{◌≡◌, ◌∙◌, ◌↔◌, ℕ, ◌<◌, Boo
 use Rattle.net_model.specs.Answer.{bit_at}
 use Rattle.kept_vectors.specs.Cube.{IsOfCube}
 
--- The vector has a bit for each source, and the cube's at each of the first that isn't free.
+-- The vector has a bit for each source, and the cube's bit at each of the first `n` sources that isn't free.
 pub record IsOfCubeBelow (cube : List (Option Bool)) (n : ℕ) (v : List Bool) : Type 0 where
   pub width : length v ≡ length cube
   pub fixed : (source : ℕ) (bit : Bool) → source < n → get_or cube source None ≡ Some bit → bit_at v source ≡ bit
 
--- where both have a bit it is the same
+-- If both cubes have a bit at the source, it is the same.
 abbrev pub DoAgree : List (Option Bool) → List (Option Bool) → ℕ → Type 0
 DoAgree one other source = (bit also : Bool) → get_or one source None ≡ Some bit → get_or other source None ≡ Some also → bit ≡ also
 
--- The bits of one cube where the other has none, and those of the other.
+-- The new cube has the bits of `other`, and those of `old` at the sources at which `other` has none.
 pub record IsBound (old other new : List (Option Bool)) : Type 0 where
   pub width : length new ≡ length old
   pub also : length other ≡ length old

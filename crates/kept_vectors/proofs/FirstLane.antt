@@ -17,14 +17,14 @@ module _ (lanes : List Bool) (lane word : ℕ) (small : word < 2 ^ 64) (is : (ot
   abbrev pub moved : ℕ
   moved = word / 2 ^ (lane % 64)
 
-  -- a bit of the word moved down is that of a lane from this one on
+  -- a bit of the word moved down is that of this lane or a later one
   lane_bit : (i : ℕ) → lane + i < LANES → lane % 64 + i < 64 → bit_of moved i ≡ bit_at lanes (lane + i)
   lane_bit i few here =
       let same : (lane + i) / 64 ≡ lane / 64 = omega (arith, here) in
       let at : (lane + i) % 64 ≡ lane % 64 + i = omega (arith, here) in
       shifted word (lane % 64) i ∙ (ap (bit_of word) (sym at) ∙ is (lane + i) few same)
 
-  -- no lane of the word from this one on has 1
+  -- this lane and the later ones of the word have no 1
   pub no_lane : moved ≡ 0 → (other : ℕ) → lane ≤ other → other < LANES → other < (lane / 64 + 1) * 64 → bit_at lanes other ≡ false
   no_lane none other from few below =
       let i = other - lane in

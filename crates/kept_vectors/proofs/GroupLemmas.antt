@@ -10,7 +10,7 @@ use Rattle.word_sim.specs.GoodSim.{GoodSim}
 use Rattle.kept_vectors.specs.Units.{IsUnit}
 use Rattle.kept_vectors.specs.Notes.{AreMatesKnown, AreMatesAlike, IsGroupKnown, AreKnown}
 
--- It is known of the classes below one.
+-- `IsKnown` holds for the classes below one, or all numbers of such a class answer alike.
 pub record AreKnownBelow (good : GoodSim) (roots : List ℕ) (IsKnown : ℕ → Type 0) (t : ClassTable) (class : ℕ) (numbers : List ℕ) : Type 0 where
   pub known : (n : ℕ) → n < length t.class_of → class_at t n < class → ((IsUnit roots n → Contains numbers n) × AreMatesKnown good IsKnown t n) ⊎ AreMatesAlike good t n
   pub mates : All (λ n. (n < length t.class_of) × AreMatesKnown good IsKnown t n) numbers
@@ -59,7 +59,8 @@ module _ (good : GoodSim) (roots : List ℕ) (t : ClassTable) (class : ℕ) (Was
       ];
     }
 
--- It is known of the units among the first numbers of a group, so many, which were added to the numbers, and nothing else but numbers of the group.
+-- `IsKnown` holds for the units among the first `at` numbers of the group, which were added to `old`, and no number
+-- that isn't of the group was.
 pub record IsKnownSoFar (roots : List ℕ) (IsKnown : ℕ → Type 0) (group : List ℕ) (at : ℕ) (old numbers : List ℕ) : Type 0 where
   pub known : (k : ℕ) → k < at → IsUnit roots (get_or group k 0) → IsKnown (get_or group k 0) × Contains numbers (get_or group k 0)
   pub only : (n : ℕ) → Contains numbers n → Contains old n ⊎ Contains group n
@@ -100,7 +101,7 @@ module _ {roots : List ℕ} {WasKnown IsKnown : ℕ → Type 0} {group : List �
     grown = λ n has. subst (λ ns. Contains ns n) (sym is) (so_far.grown n has);
   }
 
--- all of them, where the group has the root of each of its numbers
+-- all of them, if the group has the root of each of its numbers
 pub group_known : (good : GoodSim) {roots : List ℕ} {IsKnown IsRootKnown : ℕ → Type 0} {group : List ℕ} {at : ℕ} {old numbers : List ℕ} → IsKnownSoFar roots IsKnown group at old numbers → length group ≤ at
     → ((n : ℕ) → Contains group n → Contains group (get_or roots n 0) × IsUnit roots (get_or roots n 0) × (IsKnown (get_or roots n 0) → IsRootKnown n)) → IsGroupKnown good roots IsRootKnown group old numbers
 group_known good {roots} {IsKnown} {IsRootKnown} {group} {at} {old} {numbers} so_far whole units =
@@ -116,13 +117,13 @@ group_known good {roots} {IsKnown} {IsRootKnown} {group} {at} {old} {numbers} so
       so_far.grown,
     )
 
--- what is known of numbers says something else of them
+-- what is known of numbers, as something else that follows from it
 pub known_as : {good : GoodSim} {roots : List ℕ} {WasKnown IsKnown : ℕ → Type 0} {t : ClassTable} {numbers : List ℕ} → ((n : ℕ) → WasKnown n → IsKnown n) → AreKnown good roots WasKnown t numbers → AreKnown good roots IsKnown t numbers
 known_as later are = record {
   mates = λ k d h. let one = are.mates k d h in (one.0, λ other below same. later other (one.1 other below same));
   others = λ n h. elim (are.others n h) [ inl both ↦ inl (both.0, λ other below same. later other (both.1 other below same)) | inr alike ↦ inr alike ];
 }
 
--- it is known of all of a class, or all of it answer alike
+-- `IsKnown` holds for all of a class, or all of it answer alike
 pub known_or_alike : {good : GoodSim} {roots : List ℕ} {IsKnown : ℕ → Type 0} {t : ClassTable} {numbers : List ℕ} → AreKnown good roots IsKnown t numbers → (n : ℕ) → n < length t.class_of → AreMatesKnown good IsKnown t n ⊎ AreMatesAlike good t n
 known_or_alike are n h = elim (are.others n h) [ inr alike ↦ inr alike | inl both ↦ inl both.1 ]

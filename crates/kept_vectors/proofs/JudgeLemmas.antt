@@ -20,7 +20,7 @@ use Rattle.kept_vectors.specs.Scan.{IsOffered, HasJudged}
 use Rattle.net_model.proofs.OneAnswer.{one_table}
 use Rattle.kept_vectors.proofs.KeepLemmas.{ran_vectors, keeps_none, keeps_lane, keeper_after}
 
--- what is told of a table is told of one in which more numbers are apart
+-- what is noted for a table is noted for one in which more numbers are apart
 pub told_later : {good : GoodSim} {vectors : List (List Bool)} {noted : Noted} {t u : ClassTable} → IsWhole u → IsFiner t u → AreTogether noted.roots u → AreTold good vectors noted t → AreTold good vectors noted u
 told_later {t = t} {u = u} whole finer together told =
     let numbers = finer.numbers in
@@ -78,7 +78,7 @@ judged_more {old} {mid} {new} good all run splits lane ran inside before one off
     }
 
 module _ {c : Circuit} {vectors : List (List Bool)} {run : Bool} {count : ℕ} {old new : KeptSoFar} (judged : HasJudged c vectors run count old new) where
-  -- those that were judged are the first, where they are not all
+  -- the vectors that were judged are the first, if they are not all
   pub first_judged : count < length vectors → KeepsFirst c vectors old new
   first_judged short = record { count = count; short = short; keeps = judged.keeps }
 

@@ -26,7 +26,7 @@ use Rattle.kept_vectors.proofs.SameCuts.{none_kept, whole_kept}
 
 -- ---- vectors with their rows
 
--- a list for two lists one behind the other has a part for each
+-- A list for two lists, one after the other, has a part for each.
 record HasParts {A B : Type 0} (R : A → B → Type 0) (xs ys : List A) (zs : List B) : Type 0 where
   first : List B
   second : List B
@@ -109,7 +109,7 @@ unfolding refined_table
 patterns-fold [] t = omega arith
 patterns-fold (row ∷ rows) t = omega (arith, patterns-fold rows (refined_table t row))
 
--- and it has seen all the patterns
+-- a table has counted all its patterns
 pub table_patterns : {c : Circuit} {patterns : List (List Bool)} {t : ClassTable} → IsTableOf c patterns t → t.patterns ≡ length patterns
 table_patterns {c} {patterns} {t} is =
     ap (λ (u : ClassTable). u.patterns) is.table ∙ omega (arith, patterns-fold is.rows (first_table (fault_count c)), AllZip-long (IsAnswerRow c) patterns is.rows is.answers)
@@ -181,17 +181,17 @@ keeper_fold c k (v ∷ vectors) (row ∷ rows) all widths is =
     keeper_fold c (with_vector k (v, row)) vectors rows all.1 (All-tail (λ v. length v ≡ c.sources) v vectors widths)
     (keeper_by c k v row (cuts_class k.table row) refl is (All-head (λ v. length v ≡ c.sources) v vectors widths) all.0)
 
--- and it stays so
+-- it stays true after vectors came
 pub keeper_after : (c : Circuit) (vectors : List (List Bool)) (old new : KeptSoFar) → IsKeeper (keeper_with c old) → All (λ v. length v ≡ c.sources) vectors → Keeps c vectors old new → IsKeeper (keeper_with c new)
 keeper_after c vectors old new is widths keeps =
     let rows = rows_exist c is.circuit vectors in
     subst (λ (k : KeptSoFar). IsKeeper (keeper_with c k)) (sym (keeps.by_rows rows.0 rows.1)) (keeper_fold c old vectors rows.0 rows.1 widths is)
 
--- and after a beginning of vectors
+-- it stays true after some of the first vectors came
 pub keeper_first_after : (c : Circuit) (vectors : List (List Bool)) (old new : KeptSoFar) → IsKeeper (keeper_with c old) → All (λ v. length v ≡ c.sources) vectors → KeepsFirst c vectors old new → IsKeeper (keeper_with c new)
 keeper_first_after c vectors old new is widths some = keeper_after c (take some.count vectors) old new is (All-take (λ v. length v ≡ c.sources) some.count vectors widths) some.keeps
 
--- also with pairs of a vector and its row
+-- the same by pairs of a vector and its row
 pub whole_fold : (k : KeptSoFar) (pairs : List (List Bool × List (List Bool))) → IsWhole k.table → IsWhole (fold with_vector k pairs).table × IsFiner k.table (fold with_vector k pairs).table
 whole_fold k [] whole = (whole, record { numbers = refl; together = λ m n hm hn e. e })
 whole_fold k (pair ∷ pairs) whole =

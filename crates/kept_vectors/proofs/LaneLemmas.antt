@@ -1,4 +1,4 @@
--- One lane: who leaves there, what is kept, and who waits behind it.
+-- One lane: the numbers that leave there, what is kept, and the numbers that wait after it.
 use Rattle.std.proofs.Common.{◌≡◌, ℕ, ◌+◌, ◌<◌, ◌≤◌, Bool, List, [], ◌∷◌, length, get_or, sym, ap, subst, ◌∙◌, arith}
 use Rattle.std.specs.Prelude.{All, Contains}
 use Rattle.std.specs.List.{AllPairs}
@@ -21,7 +21,7 @@ use Rattle.class_refine.proofs.PatternTables.{row_exists}
 use Rattle.kept_vectors.proofs.KeepLemmas.{ran_vectors, keeps_one, skipped_lane, whole_after}
 use Rattle.kept_vectors.proofs.LeaveLemmas.{alike_in_row, first_here, some_leaves, all_leave, mates_of, are_leavers, waits_behind, waits_on, alike_there, cut_table}
 
--- The vector of the lane stands behind those that were kept, and those that left are left to wait behind it.
+-- The vector of the lane is kept after the old ones, and the numbers that left are left to wait after it.
 pub record IsLaneKept (good : GoodSim) (roots : List ℕ) (lane limit : ℕ) (lists : List (List ℕ)) (left : List ℕ) (old new : KeptSoFar) : Type 0 where
   pub together : AreTogether roots new.table
   pub keeps : Keeps good.circuit (vector_at good lane ∷ []) old new
@@ -51,7 +51,7 @@ module _ {good : GoodSim} {vectors : List (List Bool)} {noted : Noted} (old : Ke
   pub leaver_below : (n : ℕ) → Contains ns n → n < length old.table.class_of
   leaver_below n has = omega (arith, (of.only n has).0, told.roots)
 
-  -- where none leaves, nothing changes
+  -- if none leaves, nothing changes
   pub none_kept_here : ns ≡ [] → Keeps good.circuit (vector_at good lane ∷ []) old old
   none_kept_here none =
       let r = row_of in
@@ -69,7 +69,7 @@ module _ {good : GoodSim} {vectors : List (List Bool)} {noted : Noted} (old : Ke
     pub some_leavers : (row : List (List Bool)) × AreLeavers old.table row leavers positions
     some_leavers = let r = row_of in (r.0, leavers_here r.0 r.1)
 
-    -- and the vector is kept
+    -- the vector is kept
     pub lane_kept : 0 < length leavers → (new : KeptSoFar) → ((row : List (List Bool)) → AreLeavers old.table row leavers positions → new ≡ with_vector old (vector_at good lane, row)) → IsLaneKept good noted.roots lane limit lists ns old new
     lane_kept some new offered =
         let r = row_of in
@@ -91,7 +91,7 @@ module _ {good : GoodSim} {vectors : List (List Bool)} {noted : Noted} (old : Ke
           waits = waits_behind good told.circuit old.table told.whole told.numbers lane live r.0 r.1 noted.roots lists limit below waits ns (left_here r.0 r.1) new.table refined;
         }
 
-    -- of whom all numbers of the new classes are noted
+    -- all numbers of the new classes of the leavers are noted
     pub mates_behind : (new : KeptSoFar) → IsLaneKept good noted.roots lane limit lists ns old new → All (λ n. (n < length new.table.class_of) × AreMatesNoted good noted new.table n) ns
     mates_behind new kept k d h =
         let n = get_or ns k d in

@@ -1,4 +1,4 @@
--- The numbers that leave their classes at a lane, and who waits behind it.
+-- The numbers that leave their classes at a lane, and those that wait after it.
 use Rattle.std.proofs.Common.{◌≡◌, ◌↔◌, ℕ, zero, suc, ◌+◌, ◌<◌, ◌≤◌, ◌⊎◌, Bool, true, eqb, cond, List, [], ◌∷◌, ◌++◌, length, get_or, map, filter, refl, sym, ap, subst, ◌∙◌, arith, inl, inr}
 use Rattle.std.specs.Prelude.{All, Contains}
 use Rattle.std.specs.List.{AllPairs}
@@ -68,7 +68,7 @@ positions_ascend lane notes up i j d less below =
     let note : Note = record { position = 0; lanes = [] } in
     rw (get_or-map f with_lane i note d (omega (arith, less, h)), get_or-map f with_lane j note d h) (AllPairs-filter (λ (a b : Note). a.position < b.position) (λ n. bit_at n.lanes lane) notes up i j note less h)
 
--- two lists of positions are the same exactly where the same is noted
+-- two lists of positions are the same exactly if the same is noted
 pub same_positions : (lane : ℕ) (one other : List Note) → AreAscending one → AreAscending other → (lane_positions one lane ≡ lane_positions other lane) ↔ AreNotedAlike lane one other
 same_positions lane one other up up_too = (
   λ same position. one_truth (is_noted one lane position) (is_noted other lane position)
@@ -95,7 +95,7 @@ module _ (good : GoodSim) (is : IsCircuit good.circuit) (t : ClassTable) (whole 
   lead_below : (n : ℕ) → n < length t.class_of → (representative t (class_at t n) < length t.class_of) × (class_at t (representative t (class_at t n)) ≡ class_at t n)
   lead_below n h = representative-member t whole (class_at t n) (whole.classes n h)
 
-  -- who leaves its class leaves it first here
+  -- a number that leaves its class leaves it first here
   pub first_here : (n : ℕ) → LeavesClass t row n → LeavesFirst good t lane lane n
   first_here n leaves = record {
     number = leaves.below;
@@ -118,7 +118,7 @@ module _ (good : GoodSim) (is : IsCircuit good.circuit) (t : ClassTable) (whole 
         | inr fails ↦ inr (record { below = h; differs = λ e. true_false (stay_together t row n lead) (staying t row n lead (sym ((lead_below n h).1)) e) fails })
       ]
 
-  -- of two numbers of a class that answer alike both leave it or none
+  -- if two numbers of a class answer alike and one leaves it, so does the other
   leaves_also : (m n : ℕ) → n < length t.class_of → class_at t m ≡ class_at t n → answer_at t row m ≡ answer_at t row n → LeavesClass t row m → LeavesClass t row n
   leaves_also m n h class answer leaves = record {
     below = h;
@@ -196,10 +196,10 @@ module _ (good : GoodSim) (is : IsCircuit good.circuit) (t : ClassTable) (whole 
               );
         }
 
-  -- ---- behind the lane
+  -- ---- after the lane
 
   module _ (roots : List ℕ) (lists : List (List ℕ)) (limit : ℕ) (below : lane < limit) (waits : AreWaiting good roots t lane limit lists []) (left : List ℕ) (leave : (n : ℕ) → LeavesClass t row n → Contains left n) where
-    -- where numbers left, who stayed waits where it did
+    -- if numbers left, those that stayed wait where they did
     pub waits_behind : (u : ClassTable) → IsRefinement t row u → AreWaiting good roots u (lane + 1) limit lists left
     waits_behind u refined =
         let led_now : (n other : ℕ) → n < length t.class_of → answer_at t row n ≡ answer_at t row (representative t (class_at t n)) → representative u (class_at u n) ≡ representative t (class_at t n) =
@@ -233,7 +233,7 @@ module _ (good : GoodSim) (is : IsCircuit good.circuit) (t : ClassTable) (whole 
               ];
         }
 
-    -- where none left, they wait where they did
+    -- if none left, they wait where they did
     pub waits_on : left ≡ [] → AreWaiting good roots t (lane + 1) limit lists []
     waits_on none = record {
       count = waits.count;
@@ -255,7 +255,7 @@ module _ (good : GoodSim) (is : IsCircuit good.circuit) (t : ClassTable) (whole 
       ];
     }
 
-    -- and all members of a class answer alike
+    -- if none left, all members of a class answer alike
     pub alike_there : left ≡ [] → (m n : ℕ) → m < length t.class_of → n < length t.class_of → class_at t m ≡ class_at t n → AreAlikeAt good lane m n
     alike_there none m n hm hn same =
         let stays : (k : ℕ) → k < length t.class_of → answer_at t row k ≡ answer_at t row (representative t (class_at t k)) =

@@ -11,7 +11,7 @@ use Rattle.kept_vectors.specs.Kept.{KeptSoFar, nothing_kept, keeping, IsKeptOf, 
 use Rattle.kept_vectors.specs.Keeper.{Keeper, keeper_with}
 use Rattle.kept_vectors.proofs.KeepLemmas.{keeps_more, first_more, first_longer}
 
--- so many vectors from one on
+-- the given number of vectors, starting at one of them
 abbrev pub part_of : List (List Bool) → ℕ → ℕ → List (List Bool)
 part_of vectors first count = take (first + count - first) (drop first vectors)
 
@@ -23,7 +23,7 @@ module _ {c : Circuit} {old mid new : KeptSoFar} (vectors : List (List Bool)) (f
   pub list_more : Keeps c (part_of vectors first count) mid new → Keeps c (take (first + count) vectors) old new
   list_more next = subst (λ (vs : List (List Bool)). Keeps c vs old new) (sym (parts_join vectors first count)) (keeps_more before next)
 
-  -- a beginning of them, of the whole list
+  -- some of the first of them are some of the first of the whole list
   pub list_some : KeepsFirst c (part_of vectors first count) mid new → KeepsFirst c vectors old new
   list_some some =
       let rest = drop (first + count) vectors in
@@ -37,7 +37,7 @@ list_kept {c} {keeper} vectors new is fresh keeps =
     let rows = rows_exist c is vectors in
     record { rows = rows.0; answers = rows.1; kept_is = ap (λ (k : KeptSoFar). k.vectors) (from_none.by_rows rows.0 rows.1) }
 
--- of a list one list is kept
+-- only one list is kept of a list
 pub one_list_kept : {c : Circuit} {vectors kept other : List (List Bool)} → IsCircuit c → IsKeptOf c vectors kept → IsKeptOf c vectors other → kept ≡ other
 one_list_kept {c} {vectors} is of of' =
     of.kept_is ∙ ap (λ (rows : List (List (List Bool))). (keeping (fault_count c) (zip vectors rows)).vectors) (one_rows c is vectors of.rows of'.rows of.answers of'.answers) ∙ sym of'.kept_is

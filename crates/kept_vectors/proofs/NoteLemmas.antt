@@ -71,7 +71,7 @@ notes_of sim listed within ascend exactly = record {
         let h : j < length ps = omega (arith, below, length-map ps (note_at sim)) in
         rw (get_or-map (note_at sim) ps i 0 d (omega (arith, less, h)), get_or-map (note_at sim) ps j 0 d h) (up i j 0 less h)
 
--- so they report the head that was turned
+-- these notes report the head that was turned
 pub head_report : (good : GoodSim) (sim : FaultSim) (head : Head) (row : List Bool) (notes : List Note) → sim.circuit ≡ good.circuit → AreTurnedDifferences good head row sim.differences → AreNotesAt sim notes → IsHeadReport good head row notes
 head_report good sim head row notes same differ are = record {
   positions = subst (λ c. All (λ note. note.position < length c.positions) notes) same are.positions;
@@ -81,7 +81,7 @@ head_report good sim head row notes same differ are = record {
       subst (λ b. IsDifference good.circuit (turned_if good.circuit free head (bit_at row lane)) (vector_at good lane) position b) (sym noted) (differ.live position lane free h live);
 }
 
--- ---- notes behind notes
+-- ---- notes after notes
 
 drop_all_append : {X : Type 0} (xs ys : List X) → drop (length xs) (xs ++ ys) ≡ ys
 drop_all_append [] ys = refl
@@ -92,14 +92,14 @@ pub range_longer : {X : Type 0} (xs ys : List X) (a b : ℕ) → a ≤ b → b �
 range_longer xs ys a b low high =
     ap (take (b - a)) (drop-append-le a xs ys (omega (arith, low, high))) ∙ take-append-le (b - a) (drop a xs) ys (omega (arith, low, high, length-drop a xs))
 
--- the part behind a list
+-- the part after a list
 pub range_behind : {X : Type 0} (xs ys : List X) (a b : ℕ) → a ≡ length xs → b ≡ length (xs ++ ys) → slice_range (xs ++ ys) a b ≡ ys
 range_behind {X} xs ys a b start end =
     ap (λ (n : ℕ). take (b - a) (drop n (xs ++ ys))) start ∙ ap (take (b - a)) (drop_all_append xs ys) ∙ take_all (b - a) ys (omega (arith, start, end, length-append xs ys))
 
 -- ---- the heads of places
 
--- a part that is noted is noted once there are more notes
+-- a part that is noted is noted still after more notes came
 pub shown_later : {good : GoodSim} {head : Head} {row : List Bool} {old notes : List Note} {shown : Shown} (more : List Note) → notes ≡ old ++ more → IsShownAs good head row old shown → IsShownAs good head row notes shown
 shown_later {good} {head} {row} {old} {notes} {shown} more longer is =
     let same : noted_in notes shown ≡ noted_in old shown = ap (λ (ns : List Note). noted_in ns shown) longer ∙ range_longer old more shown.start shown.end is.within.0 is.within.1 in
@@ -136,7 +136,7 @@ nothing_needed good is head row notes any off none = record {
   any = λ lane h. (λ e position. refl, λ same. none lane h);
 }
 
--- the head of a head's place is it
+-- the head of the place of a head is this head
 pub head_back : (c : Circuit) (head : Head) → IsHeadOf c head → head_at (line_count c) (place_of (line_count c) head) ≡ head
 head_back c (heads.Line line) inside = rw (lt-ltb line (line_count c) inside) refl
 head_back c (heads.Position at) inside =
@@ -213,7 +213,7 @@ pub alike_by_roots : (good : GoodSim) → IsCircuit good.circuit → (roots : Li
     → get_or roots m 0 ≡ get_or roots n 0 → lane < length (vectors_of good) → AreAlikeAt good lane m n
 alike_by_roots good is roots are widths m n lane hm hn e live first second a b = are.equal is m n hm hn e (vector_at good lane) first second (widths lane [] live) a b
 
--- where the root was asked, the number is noted
+-- if the root was asked, the number is noted
 pub number_noted : (good : GoodSim) → IsCircuit good.circuit → length (vectors_of good) ≤ LANES → All (λ v. length v ≡ good.circuit.sources) (vectors_of good) → (needs : List (List Bool)) (noted : Noted) → noted.lines ≡ line_count good.circuit
     → ((place : ℕ) → place < line_count good.circuit + length good.circuit.positions → IsPlaceNoted good needs noted.notes noted.shown place) → AreRootsOf good.circuit noted.roots → (n : ℕ) → n < length noted.roots → IsNumberAsked good needs noted.turns (get_or noted.roots n 0) → IsNumberNoted good noted n
 number_noted good is few widths needs noted lines places are n inside asked =
@@ -233,7 +233,7 @@ none_beyond limit lane position (n ∷ notes) all over =
     let rest = none_beyond limit lane position notes (All-tail (λ (m : Note). m.position < limit) n notes all) over in
     λ i. (other i && bit_at n.lanes lane) || rest i
 
--- two numbers answer alike in a lane exactly where the same is noted
+-- two numbers answer alike in a lane exactly if the same is noted
 pub alike_by_notes : (good : GoodSim) → IsCircuit good.circuit → (m n lane : ℕ) (one other : List Note) → IsReportOf good m lane one → IsReportOf good n lane other → AreNotedAlike lane one other ↔ AreAlikeAt good lane m n
 alike_by_notes good is m n lane one other first second = (
   λ same. alike_by_differences good.circuit is (fault_numbered good.circuit m) (fault_numbered good.circuit n) (vector_at good lane) (is_noted one lane)

@@ -23,14 +23,14 @@ use Rattle.kept_vectors.proofs.KeepLemmas.{table_more, whole_fold, whole_after}
 -- ---- a row
 
 module _ (t : ClassTable) (row : List (List Bool)) (m n : ℕ) (hm : m < length t.class_of) (hn : n < length t.class_of) where
-  -- two numbers stay in one class exactly where they answer alike
+  -- two numbers stay in one class exactly if they answer alike
   parted_row : IsSound t → (class_at (refined_table t row) m ≡ class_at (refined_table t row) n) ↔ ((class_at t m ≡ class_at t n) × (answer_at t row m ≡ answer_at t row n))
   parted_row sound = (
     λ e. same_after t row sound m n hm hn (sym (class-refined t row m hm) ∙ (e ∙ class-refined t row n hn)),
     λ (class, answer). class-refined t row m hm ∙ (after_same t row m n hm hn class answer ∙ sym (class-refined t row n hn)),
   )
 
--- where a row cuts no class each number stays where it is
+-- if a row cuts no class, each number stays in its class
 stays_uncut : (t : ClassTable) (row : List (List Bool)) → IsSound t → cuts_class t row ≡ false → (n : ℕ) → n < length t.class_of → class_after t row n ≡ class_at t n
 stays_uncut t row sound uncut n h = elim (after_cases t row sound n h) [
   | inl stays ↦ stays.after
@@ -45,7 +45,7 @@ parted_if k v row false cuts sound m n hm hn = rw cuts (
   λ p. p.0,
 )
 
--- also with a vector that is kept or left out
+-- the same for a vector that is kept or left out
 parted_kept : (k : KeptSoFar) (v : List Bool) (row : List (List Bool)) → IsSound k.table → (m n : ℕ) → m < length k.table.class_of → n < length k.table.class_of
     → (class_at (with_vector k (v, row)).table m ≡ class_at (with_vector k (v, row)).table n) ↔ ((class_at k.table m ≡ class_at k.table n) × (answer_at k.table row m ≡ answer_at k.table row n))
 parted_kept k v row = parted_if k v row (cuts_class k.table row) refl
@@ -138,7 +138,7 @@ table_fold k [] rows all table = table
 table_fold k (v ∷ vectors) [] all table = absurd all
 table_fold k (v ∷ vectors) (row ∷ rows) all table = table_fold (with_vector k (v, row)) vectors rows all.1 (table_if k v row (cuts_class k.table row) refl table all.0)
 
--- The kept vectors of a list, with their table.
+-- These are the kept vectors of a list, with their table.
 pub record HasKept (c : Circuit) (vectors kept : List (List Bool)) : Type 0 where
   pub now : KeptSoFar
   pub keeps : Keeps c vectors (nothing_kept (fault_count c)) now
@@ -175,9 +175,9 @@ none_splits c vectors kept patterns v is of among has splits =
     let of_list = (kept_alike c vectors kept split.first split.second is of hm hn).0 of_kept in
     split.differ (row_alike c is split.first split.second hm hn v splits.row splits.answers (λ first second. of_list v first second has))
 
--- ---- a list that was looked at
+-- ---- a list that came already
 
--- two numbers of one class answer alike in the row
+-- Two numbers of one class answer alike in the row.
 abbrev IsTold : ClassTable → List Bool × List (List Bool) → Type 0
 IsTold t pair = (m n : ℕ) → m < length t.class_of → n < length t.class_of → class_at t m ≡ class_at t n → answer_at t pair.1 m ≡ answer_at t pair.1 n
 

@@ -38,7 +38,7 @@ forest_roots {c} {forest} is = record {
       same_equal c forest is m n (omega (arith, is.roots.whole)) (omega (arith, is.roots.whole)) (root_of forest m == root_of forest n) refl one;
 }
 
--- the root of a number stands for it
+-- the root of a number is its unit
 pub has_unit : (good : GoodSim) → IsCircuit good.circuit → (roots : List ℕ) → AreRootsOf good.circuit roots → All (λ v. length v ≡ good.circuit.sources) (vectors_of good) → (t : ClassTable) → length t.class_of ≡ fault_count good.circuit → AreTogether roots t
     → (n : ℕ) → n < length t.class_of → HasUnit good roots t n
 has_unit good is roots are widths t numbers together n h =

@@ -17,7 +17,7 @@ use Rattle.class_refine.proofs.PatternTables.{table_numbers}
 use Rattle.kept_vectors.proofs.KeepLemmas.{leads_rise, keeper_after}
 use Rattle.kept_vectors.proofs.SameCuts.{whole_kept}
 
--- The vector is kept: it stands behind the others and splits a class of them, so that there are more classes.
+-- The vector is kept after the others and splits a class of them, so there are more classes.
 pub record IsAdded (c : Circuit) (v : List Bool) (old new : KeptSoFar) : Type 0 where
   pub vectors : new.vectors ≡ old.vectors ++ v ∷ []
   pub splits : SplitsClass c old.vectors v

@@ -1,4 +1,5 @@
--- A lane of a block that stands: whom its vector separates, who waits there, and what stays right once it is kept.
+-- A lane of a standing block: the numbers that its vector separates, those that wait there, and what stays right after
+-- it is kept.
 use Rattle.std.proofs.Common.{◌≡◌, ◌↔◌, ◌∙◌, ℕ, ◌+◌, ◌<◌, ◌⊎◌, Bool, true, false, List, [], ◌∷◌, length, get_or, refl, sym, ap, subst, arith, inl, inr}
 use Rattle.std.specs.Prelude.{Contains}
 use Rattle.std.proofs.lemmas.Bool.{cases_Bool, false≢true}
@@ -31,13 +32,13 @@ use Rattle.kept_vectors.proofs.LeaveLemmas.{alike_in_row}
 -- ---- answers to the vector of a lane
 
 module _ (good : GoodSim) (is : IsCircuit good.circuit) (lane : ℕ) where
-  -- of a number that answers as another one, and as a third, these two answer alike
+  -- if a number answers as a second and as a third, these two answer alike
   alike_by : (k m n : ℕ) → AreAlikeAt good lane k m → AreAlikeAt good lane k n → AreAlikeAt good lane m n
   alike_by k m n one two first second a b =
       let own = answer_exists good.circuit is (fault_numbered good.circuit k) (vector_at good lane) in
       sym (one own.0 first own.1 a) ∙ two own.0 second own.1 b
 
-  -- who answers alike answers alike the other way round
+  -- if a number answers as another, this one answers as the first
   alike_back : (m n : ℕ) → AreAlikeAt good lane m n → AreAlikeAt good lane n m
   alike_back m n alike first second a b = sym (alike second first b a)
 
@@ -58,7 +59,7 @@ module _ (good : GoodSim) (is : IsCircuit good.circuit) (lane : ℕ) where
             one_answer c is (fault_numbered c n) v first other.0 a other.1 ∙ (sym same ∙ one_answer c is (fault_numbered c m) v one.0 second one.1 b));
       }
 
--- ---- who stays in its class
+-- ---- the numbers that stay in their classes
 
 module _ (good : GoodSim) (is : IsCircuit good.circuit) (old : KeptSoFar) (whole : IsWhole old.table) (numbers : length old.table.class_of ≡ fault_count good.circuit) (lane : ℕ) (live : lane < length (vectors_of good)) where
   lead_by : (row : List (List Bool)) → (n : ℕ) → n < length old.table.class_of → (b : Bool) → cuts_class old.table row ≡ b → get_or row n [] ≡ get_or row (representative old.table (class_at old.table n)) []
@@ -69,7 +70,7 @@ module _ (good : GoodSim) (is : IsCircuit good.circuit) (old : KeptSoFar) (whole
       let refined = refined_is t row whole in
       rw cuts (ap (representative (refined_table t row)) (refined.stay n h same) ∙ (refined.leads (class_at t n) (whole.classes n h)).1)
 
-  -- a number that answers as its representative keeps it, once the vector came
+  -- a number that answers as its representative keeps it after the vector came
   pub lead_keeps : (new : KeptSoFar) → Keeps good.circuit (vector_at good lane ∷ []) old new → (n : ℕ) → n < length old.table.class_of → IsLed good old.table lane n
       → representative new.table (class_at new.table n) ≡ representative old.table (class_at old.table n)
   lead_keeps new keeps n h led =
@@ -97,7 +98,7 @@ asked_later {t = t} {u = u} finer are =
       ];
     }
 
--- ---- the rows of a block that stands
+-- ---- the rows of a standing block
 
 module _ {s : Scan} {t : ClassTable} (stands : IsStanding s t) where
   -- a unit that leaves its class was asked
@@ -145,7 +146,7 @@ module _ {s : Scan} {t : ClassTable} (scan : IsScan s) (stands : IsStanding s t)
           λ led. row.1 (subst (Alike root) (sym lead) (alike_by s.good is lane member root _ as_unit led)),
         )
 
-    -- where it has no lane no vector of the block separates them
+    -- if it has no lane, no vector of the block separates them
     pub none_separates : ((lane : ℕ) → lane < length s.block.vectors → bit_at (get_or s.rows.items root []) lane ≡ false) → (v : List Bool) → Contains s.block.vectors v → SeparatesMember s.good.circuit t member v → ⊥
     none_separates off v (lane, live, is) apart =
         let led = (led_unit lane live).0 (off lane live) in
@@ -153,7 +154,7 @@ module _ {s : Scan} {t : ClassTable} (scan : IsScan s) (stands : IsStanding s t)
         apart.differ (sym (led apart.second apart.first (subst (λ (x : List Bool). IsAnswer s.good.circuit (fault_numbered s.good.circuit member) x apart.second) (sym here) apart.second_is)
         (subst (λ (x : List Bool). IsAnswer s.good.circuit (fault_numbered s.good.circuit (representative t (class_at t member))) x apart.first) (sym here) apart.first_is)))
 
-    -- the vector of a lane that it has does
+    -- the vector of a lane that it has separates them
     pub lane_separates : (lane : ℕ) → lane < length s.block.vectors → bit_at (get_or s.rows.items root []) lane ≡ true
         → Contains s.block.vectors (vector_at s.good lane) × SeparatesMember s.good.circuit t member (vector_at s.good lane)
     lane_separates lane live on =
@@ -163,7 +164,7 @@ module _ {s : Scan} {t : ClassTable} (scan : IsScan s) (stands : IsStanding s t)
           apart_at s.good stands.told.circuit lane (representative t (class_at t member)) member width (λ led. false≢true (sym ((led_unit lane live).1 led) ∙ on)),
         )
 
-  -- those whose rows have the lane wait there
+  -- the numbers whose rows have the lane wait there
   pub waits_there : (lane : ℕ) → lane < length s.block.vectors → (lists : List (List ℕ)) → length lists ≡ LANES
       → ((n : ℕ) → Contains (get_or lists lane []) n → Contains s.differences.numbers.items n × (bit_at (get_or s.rows.items n []) lane ≡ true))
       → ((n : ℕ) → Contains s.differences.numbers.items n → bit_at (get_or s.rows.items n []) lane ≡ true → Contains (get_or lists lane []) n)
@@ -193,7 +194,7 @@ module _ {s : Scan} {t : ClassTable} (scan : IsScan s) (stands : IsStanding s t)
       asked_below : (n : ℕ) → Contains s.differences.numbers.items n → n < length t.class_of
       asked_below n (k, h, e) = subst (λ (m : ℕ). m < length t.class_of) e (stands.asked.mates k n h).0
 
--- once the vector of a lane was kept the rows of those that stayed are right
+-- after the vector of a lane was kept, the rows of the numbers that stayed are right
 module _ {s : Scan} {old new : KeptSoFar} (stands : IsStanding s old.table) (lane : ℕ) (live : lane < length (vectors_of s.good)) (keeps : Keeps s.good.circuit (vector_at s.good lane ∷ []) old new) where
   pub finer_there : IsFiner old.table new.table
   finer_there = (whole_after s.good.circuit stands.told.circuit (vector_at s.good lane ∷ []) old new stands.told.whole keeps).1

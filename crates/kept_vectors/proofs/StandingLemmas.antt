@@ -1,4 +1,4 @@
--- The rows of a block that stands, one number after another.
+-- The rows of a standing block, one number after another.
 use Rattle.std.proofs.Common.{◌≡◌, ◌≢◌, ◌∙◌, ℕ, zero, suc, ◌+◌, ◌<◌, ◌≤◌, ◌⊎◌, Bool, true, false, List, [], ◌∷◌, length, get_or, set, drop, sym, ap, subst, arith, inl, inr}
 use Rattle.std.specs.Prelude.{Contains}
 use Rattle.std.proofs.lemmas.Bool.{cases_eq, false≢true}
@@ -15,7 +15,7 @@ use Rattle.kept_vectors.specs.Standing.{IsRowOf, AreRowsBut, AreRows}
 
 -- ---- a list without its first numbers
 
--- a number is the first that is left, or one of those behind it
+-- a number is the first that is left, or one of those after it
 in_front : (numbers : List ℕ) (k n : ℕ) → k < length numbers → Contains (drop k numbers) n → (n ≡ get_or numbers k 0) ⊎ Contains (drop (k + 1) numbers) n
 in_front numbers k n h has = by (subst (λ (ns : List ℕ). Contains ns n) first has)
   where
@@ -75,14 +75,14 @@ module _ (good : GoodSim) (roots : List ℕ) (t : ClassTable) (asked : List ℕ)
   none_behind : (k n : ℕ) → length asked ≤ k → Contains (drop k asked) n → ⊥
   none_behind k n over (j, less, is) = omega (arith, over, less, length-drop k asked)
 
-  -- behind the last none is left
+  -- after the last none is left
   pub rows_asked : {rows : List (List Bool)} (k : ℕ) → length asked ≤ k → AreRowsBut good roots t asked (Contains (drop k asked)) rows → AreRows good roots t asked rows
   rows_asked k over are = rows_whole are (λ n has. none_behind k n over has)
 
   pub rows_anew : {rows : List (List Bool)} (lane k : ℕ) → length asked ≤ k → AreRowsBut good roots t asked (λ n. (bit_at (get_or rows n []) lane ≡ true) × Contains (drop k asked) n) rows → AreRows good roots t asked rows
   rows_anew lane k over are = rows_whole are (λ n both. none_behind k n over both.1)
 
--- at first no row has a lane, which is right for those that were not asked
+-- at first no row has a lane, which is right for the numbers that were not asked
 pub rows_empty : (good : GoodSim) (noted : Noted) (t : ClassTable) (asked : List ℕ) (rows : List (List Bool)) → IsWhole t → length (vectors_of good) ≤ LANES → length rows ≡ length t.class_of → AreAsked good noted t asked
     → ((n lane : ℕ) → n < length rows → lane < LANES → bit_at (get_or rows n []) lane ≡ false) → AreRowsBut good noted.roots t asked (Contains asked) rows
 rows_empty good noted t asked rows whole few count are empty = record {

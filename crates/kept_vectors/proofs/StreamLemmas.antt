@@ -12,7 +12,7 @@ use Rattle.word_sim.specs.Laws.{StreamContinues}
 use Rattle.kept_vectors.specs.Kept.{KeptSoFar, Keeps, KeepsFirst}
 use Rattle.kept_vectors.proofs.KeepLemmas.{keeps_more, first_more, first_longer}
 
--- the vectors of some blocks behind others
+-- the vectors of some blocks after others
 abbrev pub blocks_from : ℕ → ℕ → ℕ → List (List Bool)
 blocks_from sources done count = map (stream_vector sources) (range_with_len (64 * done) (64 * count))
 
@@ -23,7 +23,7 @@ stream_widths sources numbers = All-map (λ v. length v ≡ sources) (stream_vec
 pub next_blocks : {block : Block} (sources source done count : ℕ) → block ≡ block_with sources (blocks_from sources done count) → sources ≡ source → block.vectors ≡ blocks_from source done count
 next_blocks sources source done count is same = ap (λ (b : Block). b.vectors) is ∙ ap (λ (n : ℕ). blocks_from n done count) same
 
--- the same of the same vectors and circuit
+-- the same for the same vectors and circuit
 pub some_of : {c k : Circuit} {vectors others : List (List Bool)} {old new : KeptSoFar} → vectors ≡ others → c ≡ k → KeepsFirst c vectors old new → KeepsFirst k others old new
 some_of {c} {k} {vectors} {others} {old} {new} same circuit some = subst (λ (d : Circuit). KeepsFirst d others old new) circuit (subst (λ (vs : List (List Bool)). KeepsFirst c vs old new) same some)
 
@@ -31,7 +31,7 @@ some_of {c} {k} {vectors} {others} {old} {new} same circuit some = subst (λ (d 
 pub stream_more : (law : StreamContinues) {c : Circuit} {old mid new : KeptSoFar} (done count : ℕ) → Keeps c (stream c.sources done) old mid → Keeps c (blocks_from c.sources done count) mid new → Keeps c (stream c.sources (done + count)) old new
 stream_more law {c} {old} {mid} {new} done count before next = subst (λ (vs : List (List Bool)). Keeps c vs old new) (sym (law c.sources done count)) (keeps_more before next)
 
--- a beginning of them, of all blocks that were asked for
+-- some of the first of their vectors are some of the first of all blocks
 pub stream_some : (law : StreamContinues) {c : Circuit} {old mid new : KeptSoFar} (done count left : ℕ) → Keeps c (stream c.sources done) old mid → KeepsFirst c (blocks_from c.sources done count) mid new
     → KeepsFirst c (stream c.sources (done + count + left)) old new
 stream_some law {c} {old} {mid} {new} done count left before some =

@@ -7,12 +7,12 @@ use Rattle.net_model.specs.Answer.{bit_at}
 use Rattle.fault_heads.specs.declared.head.Turn.{Turn}
 use Rattle.kept_vectors.specs.Notes.{Noted, AreNotedAlike, row_of, turn_notes, lane_notes}
 
--- notes that count only where a lane is turned
+-- notes that count only if the lane is turned
 pub masked_alike : (lane : ℕ) (turned any bit : Bool) (notes : List Note) → bit ≡ (turned && any) → (any ≡ false) ↔ AreNotedAlike lane notes [] → (bit ≡ false) ↔ AreNotedAlike lane (if turned then notes else []) []
 masked_alike lane true any bit notes is by = (λ off. by.0 (sym is ∙ off), λ same. is ∙ by.1 same)
 masked_alike lane false any bit notes is by = (λ off position. refl, λ same. is)
 
--- where both show their notes decide, and elsewhere whether one of them does
+-- if both show their notes decide, and else whether one of them shows
 pub apart_by : (lane : ℕ) (left right bit : Bool) (one other : List Note) → (left ≡ false) ↔ AreNotedAlike lane one [] → (right ≡ false) ↔ AreNotedAlike lane other []
     → ((left && right) ≡ false → bit ≡ (if left then not right else right)) → (left ≡ true → right ≡ true → (bit ≡ false) ↔ AreNotedAlike lane one other) → (bit ≡ false) ↔ AreNotedAlike lane one other
 apart_by lane true true bit one other first second alone both = both refl refl
@@ -26,7 +26,7 @@ apart_by lane false true bit one other first second alone both = (
 )
 apart_by lane false false bit one other first second alone both = (λ off position. first.0 refl position ∙ sym (second.0 refl position), λ same. alone refl)
 
--- the bits of what is told
+-- the bits of the result
 pub alone_bit : (left right told bit : Bool) → bit ≡ ((if left then not right else right) || ((left && right) && told)) → (left && right) ≡ false → bit ≡ (if left then not right else right)
 alone_bit true true told bit is none = absurd (false≢true (sym none))
 alone_bit true false told bit is none = is
@@ -43,6 +43,6 @@ neither_bit true true a b = refl
 neither_bit true false a b = absurd (false≢true b)
 neither_bit false right a b = absurd (false≢true a)
 
--- where a number's row has the lane its notes are all of its head's
+-- if a number's row has the lane, its notes are all notes of its head
 pub all_notes : (noted : Noted) (turn : Option Turn) (lane : ℕ) → bit_at (row_of turn) lane ≡ true → lane_notes noted turn lane ≡ turn_notes noted turn
 all_notes noted turn lane on = ap (λ (b : Bool). if b then turn_notes noted turn else []) on

@@ -45,7 +45,7 @@ module _ (roots firsts nexts : List ℕ) (k : ℕ) (inside : k < length roots) (
   pub chains_more : AreChains roots k (set firsts (get_or roots k 0) k) (set nexts k (get_or firsts (get_or roots k 0) 0))
   chains_more = record { first = first_more; next = next_more }
 
--- behind the last number there is none
+-- after the last number there is none
 pub chains_none : (roots firsts nexts : List ℕ) → ((root : ℕ) → root < length roots → get_or firsts root 0 ≡ length roots) → AreChains roots (length roots) firsts nexts
 chains_none roots firsts nexts ends = record {
   first = λ root h. let is = ends root h in record { low = omega (arith, is); within = omega (arith, is); has = λ less. absurd (omega (arith, is, less)); none = λ n low less. absurd (omega (arith, is, low, less)) };
@@ -54,7 +54,8 @@ chains_none roots firsts nexts ends = record {
 
 -- ---- along a chain
 
--- The place is a number with this root, or behind all, and the numbers with it before the place are listed.
+-- The place is a number with this root, or the count of all numbers, and the numbers with this root before it are
+-- listed.
 pub record AreListedBelow (roots : List ℕ) (root at : ℕ) (numbers : List ℕ) : Type 0 where
   pub has : at < length roots → get_or roots at 0 ≡ root
   pub all : (n : ℕ) → n < at → n < length roots → get_or roots n 0 ≡ root → Contains numbers n

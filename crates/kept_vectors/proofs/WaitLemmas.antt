@@ -1,4 +1,4 @@
--- Who waits, one number more.
+-- The numbers that wait, with one number more.
 use Rattle.std.proofs.Common.{◌≡◌, ◌≢◌, ◌↔◌, ℕ, Bool, false, zero, suc, ◌<◌, ◌≤◌, ◌⊎◌, List, [], ◌∷◌, ◌++◌, length, get_or, set, sym, ap, subst, ◌∙◌, arith, inl, inr}
 use Rattle.std.specs.Prelude.{All, Contains}
 use Rattle.std.proofs.lemmas.Bool.{cases_eq, cases_lt}
@@ -78,7 +78,7 @@ module _ (good : GoodSim) (roots : List ℕ) (t : ClassTable) (from live : ℕ) 
           ];
         }
 
--- where the notes of a number and of its representative are apart in a lane, it leaves its class there, and nowhere else
+-- a number leaves its class exactly at the lanes in which its notes and those of its representative are apart
 pub led_by_bit : (good : GoodSim) → IsCircuit good.circuit → (t : ClassTable) (number lead lane : ℕ) (bits : List Bool) (one other : List Note) → lead ≡ representative t (class_at t number) → IsReportOf good lead lane one → IsReportOf good number lane other
     → lane < length (vectors_of good) → (bit_at bits lane ≡ false) ↔ AreNotedAlike lane one other → (bit_at bits lane ≡ false) ↔ IsLed good t lane number
 led_by_bit good is t number lead lane bits one other lead_is first second live by_bit =
@@ -87,7 +87,7 @@ led_by_bit good is t number lead lane bits one other lead_is first second live b
       λ led. by_bit.1 (λ position. sym (by_notes.1 (subst (AreAlikeAt good lane number) (sym lead_is) led) position)),
     )
 
--- before anyone waits, all units whose classes are noted are left to come
+-- before any number waits, all units whose classes are noted are left to come
 pub none_wait : (good : GoodSim) (t : ClassTable) → IsWhole t → (from live : ℕ) (lists : List (List ℕ)) (left : List ℕ) (noted : Noted) → All (λ ns. ns ≡ []) lists → length lists ≡ LANES → live ≤ LANES → live ≤ length (vectors_of good)
     → AreAsked good noted t left → AreWaiting good noted.roots t from live lists left
 none_wait good t whole from live lists left noted empty count few known asked = record {

@@ -8,24 +8,26 @@ use Rattle.net_model.specs.PatternRows.{IsTableOf}
 use Rattle.class_refine.specs.Fields.{IsWhole}
 use Rattle.kept_vectors.specs.Kept.{KeptSoFar, SplitInTurn}
 
+-- a circuit, what is kept for it, and the vectors of the block that is looked at
 pub record Keeper : Type 0 where
   pub circuit : Circuit
   pub kept : KeptSoFar
-  -- the vectors of the block that is looked at
   pub looked : List (List Bool)
 
--- nothing is looked at
+-- the keeper that looks at no block
 abbrev pub keeper_with : Circuit → KeptSoFar → Keeper
 keeper_with circuit kept = record { circuit = circuit; kept = kept; looked = [] }
 
--- Each kept vector splits a class of those before it, and the table is that of all of them.
+-- `c` is a circuit, each kept vector has a bit for each source and splits a class of those before it, and the table is
+-- that of all of them, and whole.
 pub record IsKeeperOf (c : Circuit) (kept : KeptSoFar) : Type 0 where
   pub circuit : IsCircuit c
   pub splits : SplitInTurn c kept.vectors
   pub table : IsTableOf c kept.vectors kept.table
   pub whole : IsWhole kept.table
 
--- What is true of every keeper.
+-- What is true of every keeper: each kept vector has a bit for each source and splits a class of those before it, and
+-- the table is that of all of them.
 abbrev pub IsKeeper : Keeper → Type 0
 IsKeeper k = IsKeeperOf k.circuit k.kept
 

@@ -20,10 +20,12 @@ use Rattle.kept_vectors.specs.declared.notes.Note.{Note}
 use Rattle.kept_vectors.specs.declared.notes.Shown.{Shown}
 use Rattle.kept_vectors.specs.declared.differences.Differences.{Differences}
 
--- whether a note has the lane, for a position
+-- whether a note is of the position and has the lane
 abbrev pub has_lane : ℕ → ℕ → Note → Bool
 has_lane lane position note = note.position == position && bit_at note.lanes lane
 
+-- whether some note is of the position and has the lane: whether the answers that are noted differ there from the
+-- fault-free ones
 abbrev pub is_noted : List Note → ℕ → ℕ → Bool
 is_noted notes lane position = list_any (has_lane lane position) notes
 
@@ -31,15 +33,15 @@ is_noted notes lane position = list_any (has_lane lane position) notes
 abbrev pub lane_positions : List Note → ℕ → List ℕ
 lane_positions notes lane = map (λ note. note.position) (filter (λ note. bit_at note.lanes lane) notes)
 
--- The notes come by position, at most one of each.
+-- The notes are in order of their positions, at most one for each.
 abbrev pub AreAscending : List Note → Type 0
 AreAscending notes = AllPairs (λ a b. a.position < b.position) notes
 
--- The same is noted in the lane.
+-- Both lists note the same positions in the lane.
 abbrev pub AreNotedAlike : ℕ → List Note → List Note → Type 0
 AreNotedAlike lane one other = (position : ℕ) → is_noted one lane position ≡ is_noted other lane position
 
--- The part of the notes is one.
+-- What is shown is a part of the notes.
 abbrev pub IsSpanIn : List Note → Shown → Type 0
 IsSpanIn notes shown = (shown.start ≤ shown.end) × (shown.end ≤ length notes)
 
@@ -49,7 +51,8 @@ noted_in notes shown = slice_range notes shown.start shown.end
 abbrev pub nothing_shown : Shown
 nothing_shown = record { start = 0; end = 0; any = [] }
 
--- The notes say in which lanes the simulator's answers differ.
+-- The notes are in order of their positions, and say at which positions and in which lanes the simulator's answers
+-- differ.
 pub record AreNotesAt (sim : FaultSim) (notes : List Note) : Type 0 where
   pub positions : All (λ note. note.position < length sim.circuit.positions) notes
   pub ascend : AreAscending notes
@@ -66,7 +69,7 @@ place_of lines (head.Position at) = lines + at
 abbrev pub head_at : ℕ → ℕ → Head
 head_at lines place = if nat_lt place lines then head.Line place else head.Position (place - lines)
 
--- what is noted: by its place what a head shows, by number its root, and by root what it turns
+-- what is noted: for each place what its head shows, for each number its root, and for each root what it turns
 pub record Noted : Type 0 where
   pub lines : ℕ
   pub notes : List Note
@@ -89,7 +92,7 @@ module _ (noted : Noted) where
   abbrev pub turn_of : ℕ → Option Turn
   turn_of number = slice_index_or noted.turns (slice_index noted.roots number) None
 
--- the lanes in which something is turned
+-- the lanes in which a head is turned
 abbrev pub row_of : Option Turn → List Bool
 row_of None = []
 row_of (Some turn) = turn.lanes
@@ -100,15 +103,16 @@ module _ (noted : Noted) where
   turn_notes None = []
   turn_notes (Some turn) = head_notes noted (place_of noted.lines turn.head)
 
-  -- the same in a lane, where it has it
+  -- the notes of the head that is turned, if it is turned in the lane, else none
   abbrev pub lane_notes : Option Turn → ℕ → List Note
   lane_notes turn lane = if bit_at (row_of turn) lane then turn_notes turn else []
 
-  -- the notes of a number in a lane
+  -- the notes of a number in a lane: those of the head that its root turns, if the root turns it in the lane, else none
   abbrev pub number_notes : ℕ → ℕ → List Note
   number_notes number lane = lane_notes (turn_of noted number) lane
 
-  -- A part of the notes is that of the head of a place. They come by position, and it is known in which lanes there are some.
+  -- A part of the notes is that of the head of the place. They are in order of their positions, and `any` has the lanes
+  -- in which there are some.
   pub record IsPlaceShown (place : ℕ) : Type 0 where
     pub below : place < length noted.shown
     pub within : IsSpanIn noted.notes (shown_at noted place)
@@ -126,24 +130,27 @@ module _ (noted : Noted) where
     pub shown : IsTurnShown (turn_of noted number)
 
 module _ (good : GoodSim) where
-  -- The bit is true exactly where the number's answer at the position differs from the fault-free one, in this lane.
+  -- The bit is true exactly if the number's answer in the lane differs from the fault-free one at the position.
   abbrev pub IsDifferenceOf : ℕ → ℕ → ℕ → Bool → Type 0
   IsDifferenceOf number position lane bit = IsDifference good.circuit (fault_numbered good.circuit number) (vector_at good lane) position bit
 
-  -- The notes come by position, are of the circuit's, and say where the number's answers differ in the lane.
+  -- The notes are of the circuit's positions, in their order, and say at which of them the number's answer in the lane
+  -- differs from the fault-free one.
   pub record IsReportOf (number lane : ℕ) (notes : List Note) : Type 0 where
     pub positions : All (λ note. note.position < length good.circuit.positions) notes
     pub ascend : AreAscending notes
     pub differ : (position : ℕ) → position < length good.circuit.positions → IsDifferenceOf number position lane (is_noted notes lane position)
 
-  -- The notes come by position, are of the circuit's, and say where the answers differ with the head turned in the lanes of the row.
+  -- The notes are of the circuit's positions, in their order, and say at which of them and in which lanes the answers
+  -- with the head turned in the lanes of the row differ from the fault-free ones.
   pub record IsHeadReport (head : Head) (row : List Bool) (notes : List Note) : Type 0 where
     pub positions : All (λ note. note.position < length good.circuit.positions) notes
     pub ascend : AreAscending notes
     pub differ : (position lane : ℕ) (free : List Bool) → position < length good.circuit.positions → IsFreeLane good lane free
         → IsDifference good.circuit (turned_if good.circuit free head (bit_at row lane)) (vector_at good lane) position (is_noted notes lane position)
 
-  -- The part of the notes is that of the head turned in the lanes of the row.
+  -- The part of the notes reports the head turned in the lanes of the row, and `any` has the lanes in which it notes
+  -- something.
   pub record IsShownAs (head : Head) (row : List Bool) (notes : List Note) (shown : Shown) : Type 0 where
     pub within : IsSpanIn notes shown
     pub report : IsHeadReport head row (noted_in notes shown)
@@ -154,55 +161,60 @@ module _ (good : GoodSim) where
   AreAlikeAt lane m n = (first second : List Bool) → IsAnswer good.circuit (fault_numbered good.circuit m) (vector_at good lane) first
       → IsAnswer good.circuit (fault_numbered good.circuit n) (vector_at good lane) second → first ≡ second
 
-  -- The number's root is of its class and has itself as root, and both answer alike.
+  -- The number's root is of its class and has itself as root, and both answer alike to each vector.
   pub record HasUnit (roots : List ℕ) (t : ClassTable) (n : ℕ) : Type 0 where
     pub below : slice_index roots n < length t.class_of
     pub itself : IsUnit roots (slice_index roots n)
     pub together : class_at t (slice_index roots n) ≡ class_at t n
     pub alike : (lane : ℕ) → lane < length (vectors_of good) → AreAlikeAt lane n (slice_index roots n)
 
-  -- All numbers of the number's class answer as it does.
+  -- All numbers of the number's class answer as it does to each vector.
   abbrev pub AreMatesAlike : ClassTable → ℕ → Type 0
   AreMatesAlike t number = (other lane : ℕ) → other < length t.class_of → class_at t other ≡ class_at t number → lane < length (vectors_of good) → AreAlikeAt lane number other
 
   -- ---- what is asked
 
   module _ (needs : List (List Bool)) where
-    -- The number turns a head of the circuit, which is needed in all lanes in which it does; or it is no fault.
+    -- The number turns a head of the circuit in the lanes of the turn, and this head is needed in all these lanes; or
+    -- there is no turn, and the number is that of no fault.
     abbrev pub IsTurnNeeded : ℕ → Option Turn → Type 0
     IsTurnNeeded number None = fault_numbered good.circuit number ≡ Free
     IsTurnNeeded number (Some turn) = IsHeadOf good.circuit turn.head × TurnsHead good (fault_numbered good.circuit number) turn.head turn.lanes
         × ((lane : ℕ) → lane < LANES → bit_at turn.lanes lane ≡ true → bit_at (slice_index_or needs (place_of (line_count good.circuit) turn.head) []) lane ≡ true)
 
-    -- It is known what the number turns, and that is needed.
+    -- It is known what the number turns, and its head is needed in the lanes in which the number turns it.
     pub record IsNumberAsked (turns : List (Option Turn)) (number : ℕ) : Type 0 where
       pub below : number < length turns
       pub turn : IsTurnNeeded number (slice_index_or turns number None)
 
-    -- The head of a place is shown in the lanes in which it is needed.
+    -- The notes of the place say at which positions and in which lanes the answers with its head turned, in the lanes
+    -- in which the head is needed, differ from the fault-free ones.
     pub record IsPlaceNoted (notes : List Note) (shown : List Shown) (place : ℕ) : Type 0 where
       pub below : place < length shown
       pub shows : IsShownAs (head_at (line_count good.circuit) place) (slice_index_or needs place []) notes (slice_index_or shown place nothing_shown)
 
   module _ (noted : Noted) where
-    -- It is noted in which lanes the number's answers differ.
+    -- The number has notes, which say at which positions its answer in each lane with a vector differs from the
+    -- fault-free one.
     pub record IsNumberNoted (number : ℕ) : Type 0 where
       pub notes : HasNotes noted number
       pub report : (lane : ℕ) → lane < length (vectors_of good) → IsReportOf number lane (number_notes noted number lane)
 
   -- ---- groups and classes of which something is known
 
-  -- It is known of all numbers of the number's class.
+  -- `IsKnown` holds for all numbers of the number's class.
   abbrev pub AreMatesKnown : (ℕ → Type 0) → ClassTable → ℕ → Type 0
   AreMatesKnown IsKnown t number = (other : ℕ) → other < length t.class_of → class_at t other ≡ class_at t number → IsKnown other
 
   module _ (roots : List ℕ) (IsKnown : ℕ → Type 0) where
-    -- It is known of the numbers of a group, and its units were added to the numbers, and nothing else but numbers of it; or they all answer alike, and none was added.
+    -- `IsKnown` holds for all numbers of the group, and its units were added to `old`, and no number that isn't of the
+    -- group; or all numbers of the group answer alike, and none was added.
     abbrev pub IsGroupKnown : List ℕ → List ℕ → List ℕ → Type 0
     IsGroupKnown group old new = (All IsKnown group × ((n : ℕ) → Contains group n → IsUnit roots n → Contains new n) × ((n : ℕ) → Contains new n → Contains old n ⊎ Contains group n) × ((n : ℕ) → Contains old n → Contains new n))
         ⊎ ((new ≡ old) × ((m n lane : ℕ) → Contains group m → Contains group n → lane < length (vectors_of good) → AreAlikeAt lane m n))
 
-    -- It is known of all numbers of the classes of these numbers. Of any other class it is known, and its units are among these numbers, or its numbers answer alike.
+    -- `IsKnown` holds for all numbers of the classes of these numbers. For each class it holds for all its numbers, and
+    -- its units are among these numbers, or all its numbers answer alike.
     pub record AreKnown (t : ClassTable) (numbers : List ℕ) : Type 0 where
       pub mates : All (λ n. (n < length t.class_of) × AreMatesKnown IsKnown t n) numbers
       pub others : (n : ℕ) → n < length t.class_of → ((IsUnit roots n → Contains numbers n) × AreMatesKnown IsKnown t n) ⊎ AreMatesAlike t n
@@ -211,7 +223,8 @@ module _ (good : GoodSim) where
   abbrev pub AreMatesNoted : Noted → ClassTable → ℕ → Type 0
   AreMatesNoted noted = AreMatesKnown (IsNumberNoted noted)
 
-  -- These are numbers whose classes are noted, with all units of these classes, and any other number answers as all of its class.
+  -- All numbers of the classes of these numbers are noted. For each class all its numbers are noted, and its units are
+  -- among these numbers, or all its numbers answer alike.
   abbrev pub AreAsked : Noted → ClassTable → List ℕ → Type 0
   AreAsked noted = AreKnown noted.roots (IsNumberNoted noted)
 
@@ -219,11 +232,12 @@ module _ (good : GoodSim) where
   abbrev pub IsUnitAsked : Differences → ℕ → Type 0
   IsUnitAsked d n = (n < length d.units.roots.now) × IsNumberAsked d.needs.items d.turns.items (slice_index d.units.roots.now n)
 
-  -- A number that was asked is asked.
+  -- Each number that was asked before is asked still.
   abbrev pub AreAskedLater : Differences → Differences → Type 0
   AreAskedLater old new = (n : ℕ) → IsNumberAsked old.needs.items old.turns.items n → IsNumberAsked new.needs.items new.turns.items n
 
--- The circuit has run these vectors, the units stand for their numbers, and of each class of the table all numbers are noted or all answer alike.
+-- The circuit has run these vectors, the whole table has its fault numbers, each number answers as its root, which is
+-- of its class, and for each class all numbers are noted or all answer alike.
 pub record AreTold (good : GoodSim) (vectors : List (List Bool)) (noted : Noted) (t : ClassTable) : Type 0 where
   pub circuit : IsCircuit good.circuit
   pub ran : good.ran ≡ Some vectors
@@ -233,14 +247,14 @@ pub record AreTold (good : GoodSim) (vectors : List (List Bool)) (noted : Noted)
   pub units : (n : ℕ) → n < length t.class_of → HasUnit good noted.roots t n
   pub mates : (n : ℕ) → n < length t.class_of → AreMatesNoted good noted t n ⊎ AreMatesAlike good t n
 
--- Numbers with one root answer alike to every vector, and a root is its own root.
+-- Each fault number has a root, which is its own root, and numbers with one root answer alike to every vector.
 pub record AreRootsOf (c : Circuit) (roots : List ℕ) : Type 0 where
   pub whole : length roots ≡ fault_count c
   pub within : All (λ root. root < fault_count c) roots
   pub itself : (n : ℕ) → n < fault_count c → IsUnit roots (slice_index roots n)
   pub equal : IsCircuit c → (m n : ℕ) → m < fault_count c → n < fault_count c → slice_index roots m ≡ slice_index roots n → AreEqual c (fault_numbered c m) (fault_numbered c n)
 
--- The circuit has run a block, and these are its faults.
+-- The circuit has run a block of vectors with a bit for each source, and these are its faults.
 pub record HasRunBlock (good : GoodSim) (listed : List Fault) : Type 0 where
   pub circuit : IsCircuit good.circuit
   pub ran : IsSome good.ran

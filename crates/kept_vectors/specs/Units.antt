@@ -1,4 +1,4 @@
--- Units: of the numbers with one root, the root.
+-- Units: the unit of a number is its root.
 use Rattle.std.specs.Prelude.{◌≡◌, ◌≢◌, ◌≤◌, ◌<◌, ◌+◌, ℕ, List, length, slice_index, Contains}
 use Rattle.net_model.specs.ClassTable.{ClassTable, class_at}
 use Rattle.kept_vectors.specs.declared.units.Units.{Units}
@@ -7,14 +7,15 @@ use Rattle.kept_vectors.specs.declared.units.Units.{Units}
 abbrev pub IsUnit : List ℕ → ℕ → Type 0
 IsUnit roots n = slice_index roots n ≡ n
 
--- This is the first number from one on that has the root, or the count of all numbers where none has.
+-- `at` is the first number, starting at `from`, that has the root, or the count of all numbers if none has.
 pub record IsNextWith (roots : List ℕ) (root from at : ℕ) : Type 0 where
   pub low : from ≤ at
   pub within : at ≤ length roots
   pub has : at < length roots → slice_index roots at ≡ root
   pub none : (n : ℕ) → from ≤ n → n < at → slice_index roots n ≢ root
 
--- From a number on, by root the first number that has it, and by number the next with its root.
+-- For the numbers starting at `from`, `firsts` has the first number with each root, and `nexts` has for each number the
+-- next one with its root.
 pub record AreChains (roots : List ℕ) (from : ℕ) (firsts nexts : List ℕ) : Type 0 where
   pub first : (root : ℕ) → root < length roots → IsNextWith roots root from (slice_index firsts root)
   pub next : (n : ℕ) → from ≤ n → n < length roots → IsNextWith roots (slice_index roots n) (n + 1) (slice_index nexts n)
@@ -24,7 +25,7 @@ pub record HasChains (units : Units) : Type 0 where
   pub nexts : length units.nexts.items ≡ length units.roots.now
   pub chains : AreChains units.roots.now 0 units.firsts.items units.nexts.items
 
--- These are all numbers that have one of these roots.
+-- These are all numbers that have one of these roots, and no others.
 pub record AreOfUnits (roots units numbers : List ℕ) : Type 0 where
   pub all : (n : ℕ) → n < length roots → Contains units (slice_index roots n) → Contains numbers n
   pub only : (n : ℕ) → Contains numbers n → (n < length roots) × Contains units (slice_index roots n)

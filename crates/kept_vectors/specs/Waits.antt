@@ -11,14 +11,17 @@ module _ (good : GoodSim) (t : ClassTable) where
   abbrev pub IsLed : ℕ → ℕ → Type 0
   IsLed lane n = AreAlikeAt good lane n (representative t (class_at t n))
 
-  -- The lane is the first from one on at which the number answers otherwise than the representative of its class.
+  -- `lane` is the first lane, starting at `from`, at which the number answers otherwise than the representative of its
+  -- class.
   pub record LeavesFirst (from lane n : ℕ) : Type 0 where
     pub number : n < length t.class_of
     pub differs : IsLed lane n → ⊥
     pub before : (earlier : ℕ) → from ≤ earlier → earlier < lane → IsLed earlier n
 
--- From a lane on each unit waits at the first lane at which it leaves its class, if one below `live` is one; but those that are left to come may not wait yet.
 module _ (good : GoodSim) (roots : List ℕ) (t : ClassTable) where
+  -- There is a list for each lane. Among the lanes starting at `from` and below `live`, a number waits only at the
+  -- first one at which it leaves its class. Each unit waits there if there is such a lane, except those that are left
+  -- to come, which may not wait yet.
   pub record AreWaiting (from live : ℕ) (lists : List (List ℕ)) (left : List ℕ) : Type 0 where
     pub count : length lists ≡ LANES
     pub right : (n lane : ℕ) → from ≤ lane → lane < live → Contains (slice_index_or lists lane []) n → LeavesFirst good t from lane n

@@ -7,7 +7,7 @@ ghost use Rattle.kept_vectors.specs.Notes.{AreAscending, AreNotedAlike};
 use crate::notes::Note;
 use word_sim::{LANES, Lanes};
 
-// 1 in the lanes in which these notes are of different positions.
+// Returns 1 in each lane in which the two lists note different positions, and 0 in the others.
 pub(crate) fn apart(one: &[Note], other: &[Note]) -> Lanes
     requires one { AreAscending one.now }
     requires other { AreAscending other.now }
@@ -32,7 +32,7 @@ pub(crate) fn apart(one: &[Note], other: &[Note]) -> Lanes
     lanes.or(any_lane(one, at)).or(any_lane(other, by))
 }
 
-// 1 in the lanes of the notes from a place on.
+// Returns 1 in each lane that a note has, starting at place `from`, and 0 in the others.
 pub(crate) fn any_lane(notes: &[Note], from: usize) -> Lanes
     requires from { from ≤ length notes.now }
     requires ascend { AreAscending notes.now }
@@ -45,7 +45,7 @@ pub(crate) fn any_lane(notes: &[Note], from: usize) -> Lanes
     lanes
 }
 
-// The first lane from `from` on that has 1, if one below `live` has.
+// Returns the first lane that has 1, starting at `from`, if one below `live` has, else `live` or more.
 pub(crate) fn first_lane(lanes: Lanes, from: u32, live: u32) -> u32
     requires { live ≤ LANES }
     ensures found { result < live → bit_at lanes result ≡ true }

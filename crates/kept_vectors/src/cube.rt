@@ -1,4 +1,4 @@
-//! Cubes: some sources have a bit, and the others are free.
+//! `Cube`: some sources have a bit, and the others are free; and the vectors of cubes in a block.
 
 ghost use Rattle.std.specs.Prelude.{◌≡◌, ◌<◌, ◌↔◌, ℕ, List, Bool, [], Some, None, true, false, All, IsTrue, length, slice_index_or};
 ghost use Rattle.net_model.specs.Answer.{bit_at};
@@ -23,21 +23,22 @@ impl Model for Cube {
 }
 
 impl Cube {
-    /// The cube with these bits.
+    /// Returns the cube with these bits.
     pub fn new(bits: Vec<Option<bool>>) -> Cube
         ensures { result ≡ bits.items }
     {
         Cube { bits }
     }
 
-    /// The bits.
+    /// Returns the bit of each source, or none if it is free.
     pub fn bits(&self) -> &[Option<bool>]
         ensures { result.now ≡ self.now }
     {
         self.bits.as_slice()
     }
 
-    /// Binds the sources that another cube binds, unless one of them has the other bit here. Returns whether none has.
+    /// Binds each source that `other` binds, unless the two cubes have different bits at a source. Returns false
+    /// exactly if no vector is of both cubes; then the cube is as before.
     pub fn join(&mut self, other: &[Option<bool>]) -> bool
         requires { length other.now ≡ length self.old }
         ensures width { length self.new ≡ length self.old }
@@ -53,7 +54,7 @@ impl Cube {
     }
 }
 
-// Whether two cubes have other bits at a source.
+// Returns whether two cubes have different bits at a source.
 fn contradict(one: &[Option<bool>], other: &[Option<bool>]) -> bool
     requires { length other.now ≡ length one.now }
     ensures apart { IsTrue result → (v : List Bool) → IsOfCube one.now v → IsOfCube other.now v → ⊥ }
@@ -69,7 +70,7 @@ fn contradict(one: &[Option<bool>], other: &[Option<bool>]) -> bool
     false
 }
 
-// Binds the sources that another cube binds.
+// Binds each source that `other` binds.
 fn bind(cube: &mut [Option<bool>], other: &[Option<bool>])
     requires { length other.now ≡ length cube.old }
     ensures width { length cube.new ≡ length cube.old }
@@ -83,7 +84,8 @@ fn bind(cube: &mut [Option<bool>], other: &[Option<bool>])
     }
 }
 
-// Gives the cubes equal shares of the lanes of a block, one behind another, and the bound sources of each its bits in them.
+// Gives the cubes equal shares of the lanes of `block`, one after another, and sets the bound sources of each cube in
+// its share.
 pub(crate) fn fix_cubes(block: &mut Block, cubes: &[Cube])
     requires some { 0 < length cubes.now }
     requires live { 0 < length block.old.vectors }
@@ -103,7 +105,7 @@ pub(crate) fn fix_cubes(block: &mut Block, cubes: &[Cube])
     }
 }
 
-// Gives the bound sources of a cube their bits in the vectors of these lanes.
+// Sets the bound sources of `cube` in the vectors of `lanes`.
 fn fix_sources(block: &mut Block, cube: &Cube, lanes: Lanes)
     requires { length cube.now ≡ block.old.sources }
     ensures sources { block.new.sources ≡ block.old.sources }

@@ -1,4 +1,5 @@
-//! In which lanes the answers of fault numbers differ from the fault-free ones: each turns a head, and its head is simulated.
+//! What the units of each class with more than one unit turn, what their heads show, and in which lanes two numbers
+//! answer differently.
 
 ghost use Rattle.std.specs.Prelude.{◌≡◌, ◌≤◌, ◌<◌, ◌+◌, ◌^◌, ◌↔◌, ◌++◌, ℕ, List, [], ◌∷◌, true, false, length, All, Contains, IfOk, OnOk, IsSome, slice_index};
 ghost use Rattle.net_model.specs.Answer.{bit_at};
@@ -23,9 +24,9 @@ use net_model::Circuit;
 use std::alloc::{AllocError, Global};
 use word_sim::{GoodSim, LANES, Lanes};
 
-// What was noted of the answers of numbers to the vectors of a block. Heads stand one behind another: the lines, and then
-// the positions. Of each unit that was asked there is what it turns, of each head in which lanes it is needed and what
-// it shows, and `numbers` are the units that were asked. A number answers as its unit.
+// What was noted of the answers of numbers to the vectors of a block. The places of heads are the lines and then the
+// positions. `numbers` are the units that were asked, and `turns` has what each of these turns. For each place `needs`
+// has the lanes in which its head is needed, and `shown` what the head shows. A number answers as its unit.
 pub(crate) struct Differences<'a> {
     pub(crate) lines: u32,
     pub(crate) heads: Heads<'a>,
@@ -38,7 +39,7 @@ pub(crate) struct Differences<'a> {
     pub(crate) units: Units<'a>,
 }
 
-// Written out, as a keeper's.
+// As for `Keeper`.
 impl Drop for Differences<'_> {
     fn drop(self) {
         let Differences {
@@ -55,7 +56,7 @@ impl Drop for Differences<'_> {
     }
 }
 
-// The lanes in which something is turned.
+// Returns the lanes in which a head is turned, no lane without a turn.
 fn row(turn: &Option<Turn>) -> Lanes
     ensures { (lane : ℕ) → lane < LANES → bit_at result lane ≡ bit_at (row_of turn.now) lane }
 {
@@ -65,7 +66,7 @@ fn row(turn: &Option<Turn>) -> Lanes
     }
 }
 
-// The place of a head, of so many lines.
+// Returns the place of a head in a circuit with `lines` lines.
 fn place(lines: u32, head: Head) -> usize
     ensures { result ≡ place_of lines head }
 {
@@ -75,7 +76,7 @@ fn place(lines: u32, head: Head) -> usize
     }
 }
 
-// The head of a place.
+// Returns the head of `place`.
 fn head_of(circuit: &Circuit, place: usize) -> Head
     requires { place < line_count circuit.now + length circuit.now.positions }
     ensures value { result ≡ head_at (line_count circuit.now) place }
@@ -107,7 +108,8 @@ impl<'a> Differences<'a> {
             end: 0,
             any: none,
         };
-        // (what is dropped after an error is proved for each `?`, so the large ones come late, and behind them what can't fail)
+        // What is dropped after an error is proved for each `?`, so the large ones come late, and after them what can't
+        // fail.
         Ok(Differences {
             lines,
             needs: vec![in alloc; none; heads]?,
@@ -121,7 +123,7 @@ impl<'a> Differences<'a> {
         })
     }
 
-    // What a number's unit turns.
+    // Returns what the unit of `number` turns.
     fn turn_of(&self, number: u32) -> &Option<Turn>
         requires { HasNotes (noted_by self.now) number }
         ensures { result.now ≡ turn_of (noted_by self.now) number }
@@ -129,7 +131,7 @@ impl<'a> Differences<'a> {
         &self.turns[self.units.of(number) as usize]
     }
 
-    // The notes of what is turned.
+    // Returns the notes of the head that is turned.
     fn turn_notes(&self, turn: &Option<Turn>) -> &[Note]
         requires { IsTurnShown (noted_by self.now) turn.now }
         ensures { result.now ≡ turn_notes (noted_by self.now) turn.now }
@@ -143,7 +145,7 @@ impl<'a> Differences<'a> {
         }
     }
 
-    // The notes of a number in a lane.
+    // Returns the notes of `number` in `lane`.
     pub(crate) fn notes_at(&self, number: u32, lane: u32) -> &[Note]
         requires lane { lane < LANES }
         requires noted { HasNotes (noted_by self.now) number }
@@ -156,7 +158,7 @@ impl<'a> Differences<'a> {
         self.turn_notes(turn)
     }
 
-    // The lanes in which what is turned shows.
+    // Returns the lanes in which a head is turned and shows.
     fn lanes_of(&self, turn: &Option<Turn>) -> Lanes
         requires { IsTurnShown (noted_by self.now) turn.now }
         ensures turned { (lane : ℕ) → lane < LANES → bit_at result lane ≡ true → bit_at (row_of turn.now) lane ≡ true }
@@ -168,8 +170,8 @@ impl<'a> Differences<'a> {
         }
     }
 
-    // In which lanes two numbers answer differently: where one of them shows and the other doesn't, and where both do and
-    // their heads show differently.
+    // Returns in which lanes two numbers answer differently: those in which one of them shows and the other doesn't,
+    // and those in which both do and their heads show differently.
     pub(crate) fn apart(&self, one: u32, other: u32) -> Lanes
         requires one { HasNotes (noted_by self.now) one }
         requires other { HasNotes (noted_by self.now) other }
@@ -185,7 +187,7 @@ impl<'a> Differences<'a> {
         alone.or(both.and(told))
     }
 
-    // Notes the answers of all numbers that can be told apart within their classes.
+    // Notes the answers of all units of classes with more than one unit.
     pub(crate) fn note_classes(
         &mut self,
         listed: &FaultList,
@@ -206,7 +208,7 @@ impl<'a> Differences<'a> {
         self.show_heads(good)
     }
 
-    // Asks for all units that can be told apart within their classes.
+    // Asks for all units of classes with more than one unit.
     fn ask_classes(
         &mut self,
         listed: &FaultList,
@@ -231,7 +233,7 @@ impl<'a> Differences<'a> {
         Ok(())
     }
 
-    // Asks for the units of a group with more of them than one.
+    // Asks for the units of `group` if it has more than one unit.
     fn ask_class(
         &mut self,
         listed: &FaultList,
@@ -260,7 +262,7 @@ impl<'a> Differences<'a> {
         Ok(())
     }
 
-    // Asks for a unit: its head is needed where it turns it.
+    // Asks for a unit: its head is needed in the lanes in which the unit turns it.
     fn ask(&mut self, listed: &FaultList, good: &GoodSim, number: u32) -> Result<(), AllocError>
         requires faults { listed.now ≡ faults good.now.circuit }
         requires number { number < fault_count good.now.circuit }
@@ -283,7 +285,7 @@ impl<'a> Differences<'a> {
         Ok(())
     }
 
-    // Simulates each head where it is needed, and notes where it shows.
+    // Simulates each head in the lanes in which it is needed, and notes where it shows.
     fn show_heads(&mut self, good: &GoodSim) -> Result<(), AllocError>
         requires circuit { IsCircuit good.now.circuit }
         requires ran { IsSome good.now.ran }
@@ -303,7 +305,7 @@ impl<'a> Differences<'a> {
         Ok(())
     }
 
-    // Simulates the head of a place where it is needed, and notes where it shows.
+    // Simulates the head of `place` in the lanes in which it is needed, and notes where it shows.
     fn show(&mut self, good: &GoodSim, place: usize) -> Result<(), AllocError>
         requires circuit { IsCircuit good.now.circuit }
         requires ran { IsSome good.now.ran }
@@ -333,7 +335,6 @@ impl<'a> Differences<'a> {
     }
 }
 
-// No head is needed.
 fn need_nothing(needs: &mut [Lanes])
     ensures { length needs.new ≡ length needs.old }
 {
@@ -342,7 +343,7 @@ fn need_nothing(needs: &mut [Lanes])
     }
 }
 
-// Whether two numbers turn the same head.
+// Returns whether both turn a head, and the same one.
 fn have_one_head(one: &Option<Turn>, other: &Option<Turn>) -> bool
     ensures { result ≡ true → (noted : Noted) → turn_notes noted one.now ≡ turn_notes noted other.now }
 {

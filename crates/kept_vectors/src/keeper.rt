@@ -1,4 +1,4 @@
-//! The keeper of vectors.
+//! `Keeper`: the vectors that are kept for a circuit, of those that come one after another.
 
 ghost use Rattle.std.specs.Prelude.{◌≡◌, ◌≤◌, ◌<◌, ℕ, List, Bool, [], ◌∷◌, All, Contains, IfOk, OnOk, OnErr, IsTrue, length, slice_index_or};
 ghost use Rattle.net_model.specs.FaultList.{fault_count};
@@ -18,20 +18,20 @@ use std::alloc::{AllocError, Global};
 use std::marker::Model;
 use word_sim::{Block, LANES, Stream, stream_continues};
 
-/// The vectors that are kept for a circuit, and the classes of fault numbers that they tell apart. Of the vectors that
-/// come, one after another, each is kept that splits a class of those kept before it. A block of vectors of cubes is
-/// looked at first, and simulated once: then a vector of it is kept for one number after another.
+/// The vectors that are kept for a circuit, and the classes of fault numbers that they tell apart. Vectors come one
+/// after another, and each that splits a class of those kept before it is kept. A block of vectors of cubes is looked
+/// at first, which simulates it once; then a vector of it is kept for one number after another.
 pub struct Keeper<'a> {
     scan: Scan<'a>,
     kept: Kept,
-    // Behind the blocks that were drawn of it.
+    // After the blocks that were drawn from it.
     stream: Stream,
     // Whether the scan's block is looked at.
     stands: bool,
 }
 
-// Written out, it is one step in the proof of each function that lets a keeper go, where a derived one is a step for
-// each vector in it.
+// Written by hand, since the proof of each function that drops a keeper then has one step for it; a derived drop takes
+// a step for each vector in it.
 impl Drop for Keeper<'_> {
     fn drop(self) {
         let Keeper {
@@ -55,7 +55,7 @@ impl<'a> Model for Keeper<'a> {
 }
 
 impl<'a> Keeper<'a> {
-    /// Nothing is kept.
+    /// Returns a keeper for the circuit of `subject` that has kept nothing.
     pub fn new(alloc: Global, subject: &'a Subject<'a>) -> Result<Keeper<'a>, AllocError>
         ensures { IfOk result (λ keeper. keeper ≡ keeper_with subject.now (nothing_kept (fault_count subject.now))) }
     {
@@ -71,8 +71,9 @@ impl<'a> Keeper<'a> {
         })
     }
 
-    /// Keeps of the vectors of the first blocks of the stream those that split a class. After an error some of the first
-    /// vectors, and not all, have been looked at, as if no others had come.
+    /// Keeps each vector of the first `blocks` blocks of the stream that splits a class. After an error it is as if
+    /// only some of the first vectors of these blocks had come, and not all: each of them that splits a class is kept
+    /// after the old ones, and the circuit is as before. Afterwards no block is looked at.
     pub fn keep_stream(&mut self, blocks: u32) -> Result<(), AllocError>
         ensures circuit { self.new.circuit ≡ self.old.circuit }
         ensures looked { self.new.looked ≡ [] }
@@ -92,8 +93,9 @@ impl<'a> Keeper<'a> {
         Ok(())
     }
 
-    /// Keeps of the vectors of a list those that split a class. After an error some of the first vectors, and not all, have
-    /// been looked at, as if no others had come.
+    /// Keeps each vector of the list that splits a class. After an error it is as if only some of the first vectors of
+    /// the list had come, and not all: each of them that splits a class is kept after the old ones, and the circuit is
+    /// as before. Afterwards no block is looked at.
     pub fn keep_list(&mut self, vectors: &[Vector]) -> Result<(), AllocError>
         requires { All (λ v. length v ≡ self.old.circuit.sources) vectors.now }
         ensures circuit { self.new.circuit ≡ self.old.circuit }
@@ -112,7 +114,8 @@ impl<'a> Keeper<'a> {
         Ok(())
     }
 
-    /// Keeps a vector if it splits a class. After an error nothing has changed.
+    /// Keeps `v` if it splits a class. After an error circuit and kept vectors are as before. Afterwards no block is
+    /// looked at.
     pub fn keep(&mut self, v: &Vector) -> Result<(), AllocError>
         requires { length v.now ≡ self.old.circuit.sources }
         ensures circuit { self.new.circuit ≡ self.old.circuit }
@@ -126,8 +129,9 @@ impl<'a> Keeper<'a> {
         self.scan.keep_block(&mut self.kept)
     }
 
-    /// Looks at a block of vectors of these cubes: the free sources have the bits of the next blocks of the stream, and
-    /// the cubes have equal shares of the lanes. What is kept stays. After an error no block is looked at.
+    /// Looks at a block of vectors of `cubes`, one cube or more: the free sources have the bits of the next blocks of
+    /// the stream, and the cubes have equal shares of the lanes; if there are more cubes than lanes, the first ones
+    /// have a lane each. What is kept stays, also after an error, but then no block is looked at.
     pub fn look(&mut self, cubes: &[Cube]) -> Result<(), AllocError>
         requires some { 0 < length cubes.now }
         requires widths { All (λ cube. length cube ≡ self.old.circuit.sources) cubes.now }
@@ -145,9 +149,10 @@ impl<'a> Keeper<'a> {
         Ok(())
     }
 
-    /// Keeps a vector of the block that is looked at, if one separates a number from the representative of its class: of
-    /// those the one at which most roots of collapse answer otherwise than the representatives of their classes. Returns
-    /// whether there is one. The block is looked at still. After an error what is kept has not changed.
+    /// Keeps a vector of the block that is looked at, if one separates number `member` from the representative of its
+    /// class: of those that do, the one at which the most roots of collapse answer otherwise than the representatives
+    /// of their classes. Returns whether one does; if it returns false, nothing has changed. The block is still looked
+    /// at. After an error nothing has changed.
     pub fn keep_apart(&mut self, member: u32) -> Result<bool, AllocError>
         requires { member < fault_count self.old.circuit }
         ensures circuit { self.new.circuit ≡ self.old.circuit }
@@ -163,8 +168,10 @@ impl<'a> Keeper<'a> {
         self.scan.keep_apart(&mut self.kept, member)
     }
 
-    /// Keeps the vectors of a run, one after another, up to the first that splits no class. Answers how many are kept. After
-    /// an error the first of them are kept, and not all: as many as stand behind the old vectors.
+    /// Keeps the vectors of a run, at most `LANES`, one after another, until one splits no class of those before it,
+    /// and returns how many are kept after the old ones. These are fewer than all exactly if there is such a vector:
+    /// then they are the vectors before the first such one. After an error some of the first vectors are kept after the
+    /// old ones, and not all; the circuit is as before. Afterwards no block is looked at.
     pub fn keep_run(&mut self, vectors: &[Vector]) -> Result<usize, AllocError>
         requires few { length vectors.now ≤ LANES }
         requires widths { All (λ v. length v ≡ self.old.circuit.sources) vectors.now }
@@ -180,7 +187,7 @@ impl<'a> Keeper<'a> {
         Ok(count as usize)
     }
 
-    /// The kept vectors.
+    /// Returns the kept vectors.
     pub fn vectors(&self) -> &[Vector]
         ensures value { result.now ≡ self.now.kept.vectors }
         ensures keeper { IsKeeper self.now }
@@ -188,7 +195,7 @@ impl<'a> Keeper<'a> {
         self.kept.vectors.as_slice()
     }
 
-    /// The classes of fault numbers that the kept vectors tell apart.
+    /// Returns the classes of fault numbers that the kept vectors tell apart.
     pub fn classes(&self) -> &Classes
         ensures value { result.now ≡ self.now.kept.table }
         ensures keeper { IsKeeper self.now }
@@ -196,7 +203,7 @@ impl<'a> Keeper<'a> {
         &self.kept.classes
     }
 
-    /// The kept vectors, and the classes of fault numbers that they tell apart.
+    /// Returns the kept vectors, and the classes of fault numbers that they tell apart.
     pub fn into_kept(self) -> (Vec<Vector>, Classes)
         ensures vectors { result.0.items ≡ self.entry.kept.vectors }
         ensures classes { result.1 ≡ self.entry.kept.table }
@@ -212,7 +219,7 @@ impl<'a> Keeper<'a> {
     }
 }
 
-// Puts vectors into a block, in place of those that it has.
+// Puts `vectors` into `block`, in place of those that it has.
 fn fill(block: &mut Block, vectors: &[Vector])
     requires few { length vectors.now ≤ LANES }
     requires widths { All (λ v. length v ≡ block.old.sources) vectors.now }

@@ -2,7 +2,7 @@
 
 ghost use Rattle.kept_vectors.specs.Laws.{TablesArePartedBy, KeptTellAsMuch, KeptAnswerAlike, NoneOfListSplits, KeptOnce, NothingMoreIsKept, SplittersAreKept};
 
-/// Two numbers are in one class of patterns exactly where they answer alike to each of them.
+/// Two numbers are in one class of a table of patterns exactly if they answer alike to each of these.
 pub fn tables_are_parted_by()
     ensures { TablesArePartedBy }
 {}
@@ -12,17 +12,17 @@ pub fn kept_tell_as_much()
     ensures { KeptTellAsMuch }
 {}
 
-/// Two numbers answer alike to what is kept of a list exactly where they do to the whole list.
+/// Two numbers answer alike to what is kept of a list exactly if they answer alike to the whole list.
 pub fn kept_answer_alike()
     ensures { KeptAnswerAlike }
 {}
 
-/// A vector of a list splits no class of patterns among which is all that is kept of the list.
+/// If all that is kept of a list is among some patterns, no vector of the list splits a class of these patterns.
 pub fn none_of_list_splits()
     ensures { NoneOfListSplits }
 {}
 
-/// Once a list was looked at nothing more of it is kept.
+/// If a list comes again, nothing more of it is kept.
 pub fn kept_once()
     ensures { KeptOnce }
 {}
@@ -32,7 +32,7 @@ pub fn nothing_more_is_kept()
     ensures { NothingMoreIsKept }
 {}
 
-/// Vectors each of which splits a class of those before it are all kept.
+/// If each vector of a list splits a class of those before it, all are kept.
 pub fn splitters_are_kept()
     ensures { SplittersAreKept }
 {}

@@ -1,4 +1,4 @@
-//! Notes of where turned heads show.
+//! Notes of where the answers with a head turned differ from the fault-free ones.
 
 ghost use Rattle.std.specs.Prelude.{◌≡◌, ◌≤◌, ◌<◌, ◌↔◌, ◌++◌, ℕ, List, [], true, false, All, IfOk, IsSome, OnOk, length, slice_index, slice_range};
 ghost use Rattle.net_model.specs.Answer.{bit_at};
@@ -12,14 +12,14 @@ use fault_sim::FaultSim;
 use std::alloc::AllocError;
 use word_sim::{GoodSim, LANES, Lanes};
 
-// A position at which the answers with a head turned differ from the fault-free ones, in these lanes.
+// A position at which the answers with a head turned differ from the fault-free ones, and in which lanes.
 #[derive(Clone, Copy)]
 pub(crate) struct Note {
     pub(crate) position: u32,
     pub(crate) lanes: Lanes,
 }
 
-// Where the notes of a head stand, from `start` to before `end`, and the lanes in which it shows at all.
+// The part of the notes that is a head's, from `start` to before `end`, and the lanes in which the head shows at all.
 #[derive(Clone, Copy)]
 pub(crate) struct Shown {
     pub(crate) start: usize,
@@ -27,7 +27,7 @@ pub(crate) struct Shown {
     pub(crate) any: Lanes,
 }
 
-// Simulates a head turned in these lanes, and notes where it shows.
+// Simulates `head` turned in the lanes `needed`, and notes where it shows.
 pub(crate) fn show_head(
     sim: &mut FaultSim,
     good: &GoodSim,
@@ -50,7 +50,7 @@ pub(crate) fn show_head(
     Ok(shown_in(notes.as_slice(), start, end))
 }
 
-// What a part of the notes shows.
+// Returns the part of the notes from `start` to before `end`, with the lanes in which it shows.
 fn shown_in(notes: &[Note], start: usize, end: usize) -> Shown
     requires low { start ≤ end }
     requires high { end ≤ length notes.now }
@@ -63,7 +63,7 @@ fn shown_in(notes: &[Note], start: usize, end: usize) -> Shown
     Shown { start, end, any }
 }
 
-// Notes where the answers differ in some lane.
+// Adds a note for each position at which the answers differ in some lane.
 fn note_differences(sim: &FaultSim, notes: &mut Vec<Note>) -> Result<(), AllocError>
     ensures { OnOk result ((more : List Note) × (notes.new.items ≡ notes.old.items ++ more) × AreNotesAt sim.now more) }
 {
@@ -76,7 +76,7 @@ fn note_differences(sim: &FaultSim, notes: &mut Vec<Note>) -> Result<(), AllocEr
     Ok(())
 }
 
-// The notes of a head.
+// Returns the notes of a head.
 pub(crate) fn notes_in(notes: &[Note], shown: Shown) -> &[Note]
     requires { IsSpanIn notes.now shown }
     ensures { result.now ≡ noted_in notes.now shown }
@@ -84,7 +84,7 @@ pub(crate) fn notes_in(notes: &[Note], shown: Shown) -> &[Note]
     &notes[shown.start..shown.end]
 }
 
-// Adds the positions at which the answer differs in a lane.
+// Adds the positions at which the answer differs in `lane`.
 pub(crate) fn add_positions(
     notes: &[Note],
     lane: u32,
@@ -101,7 +101,7 @@ pub(crate) fn add_positions(
     Ok(())
 }
 
-// Whether all numbers of a group have one root.
+// Returns whether all numbers of `group` have one root.
 pub(crate) fn have_one_root(roots: &[u32], group: &[u32]) -> bool
     requires { All (λ number. number < length roots.now) group.now }
     ensures { result ≡ true → (k : ℕ) → k < length group.now → slice_index roots.now (slice_index group.now k) ≡ slice_index roots.now (slice_index group.now 0) }

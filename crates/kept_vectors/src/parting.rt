@@ -12,7 +12,7 @@ use fault_collapse::Subject;
 use net_model::Vector;
 use std::alloc::{AllocError, Global};
 
-/// The classes of fault numbers that two lists of vectors tell apart together, the one before the other.
+/// Returns the classes of fault numbers that two lists of vectors tell apart together, `one` before `other`.
 pub fn classes_of(
     alloc: Global,
     subject: &Subject,

@@ -31,7 +31,7 @@ pub(crate) struct Kept {
 }
 
 impl Kept {
-    // Keeps a vector at which numbers leave their classes: these, whose answers these positions tell.
+    // Keeps the vector `v`, at which the numbers of `leaving` leave their classes.
     fn offer(&mut self, v: Vector, leaving: &Leaving) -> Result<(), AllocError>
         requires whole { IsWhole self.old.classes }
         requires some { 0 < length leaving.now.leavers.items }
@@ -47,7 +47,6 @@ impl Kept {
         Ok(())
     }
 
-    // The vectors and the classes.
     pub(crate) fn into_parts(self) -> (Vec<Vector>, Classes)
         ensures vectors { result.0.items ≡ self.vectors.items }
         ensures classes { result.1 ≡ self.classes }
@@ -57,9 +56,10 @@ impl Kept {
     }
 }
 
-// What tells which vectors split a class: the circuit's faults, a block of vectors, the simulators of the block and of
-// faults on it with what the faults showed, the units that wait for a lane at which they leave their classes, the numbers
-// that leave at one, and for a block that stands by unit the lanes at which it leaves.
+// What finds the vectors that split a class: the circuit's faults, a block of vectors, the simulator of the block, the
+// simulator of faults with what they showed, the units that wait at the lanes at which they leave their classes, the
+// numbers that leave at one lane, the counts for each lane, and for a standing block the lanes at which each unit
+// leaves its class.
 pub(crate) struct Scan<'a> {
     pub(crate) listed: &'a FaultList,
     pub(crate) block: Block,
@@ -68,11 +68,11 @@ pub(crate) struct Scan<'a> {
     pub(crate) waiting: Waiting,
     pub(crate) leaving: Leaving,
     pub(crate) tally: Tally,
-    // By number, of a block that stands.
+    // By number, for a standing block.
     pub(crate) rows: Vec<Lanes>,
 }
 
-// Written out, as a keeper's.
+// As for `Keeper`.
 impl Drop for Scan<'_> {
     fn drop(self) {
         let Scan {
@@ -98,7 +98,6 @@ impl<'a> Scan<'a> {
         Scan::with(alloc, subject.listed(), good, differences)
     }
 
-    // The scan of a circuit with its simulators.
     fn with(
         alloc: Global,
         listed: &'a FaultList,
@@ -143,8 +142,8 @@ impl<'a> Scan<'a> {
         Ok(())
     }
 
-    // Judges the vectors of the block one after another, and keeps each that splits a class: all of them, or of a run those
-    // up to the first that splits none. Answers how many they are.
+    // Judges the vectors of the block one after another, and keeps each that splits a class. In a run it stops at the
+    // first that splits none. Returns how many were judged, without the one at which it stopped.
     pub(crate) fn judge(&mut self, kept: &mut Kept, run: bool) -> Result<u32, AllocError>
         requires scan { IsScan self.old }
         requires whole { IsWhole kept.old.classes }
@@ -185,7 +184,7 @@ impl<'a> Scan<'a> {
             .note_classes(self.listed, &self.good, classes)
     }
 
-    // Judges the vectors of the block by what is noted of them and by who waits where.
+    // Judges the vectors of the block by what is noted of them and by the units that wait at each lane.
     fn judge_lanes(&mut self, kept: &mut Kept, run: bool) -> Result<u32, AllocError>
         requires scan { IsScan self.old }
         requires told { AreTold self.old.good self.old.block.vectors (noted_by self.old.differences) kept.old.classes }
@@ -206,8 +205,8 @@ impl<'a> Scan<'a> {
         Ok(live)
     }
 
-    // Keeps the vector of a lane if it splits a class, and lets those that left their classes wait at lanes behind it. Answers
-    // whether it does.
+    // Keeps the vector of `lane` if it splits a class, and lets the units that left their classes wait at later lanes.
+    // Returns whether it splits one.
     pub(crate) fn judge_lane(
         &mut self,
         kept: &mut Kept,

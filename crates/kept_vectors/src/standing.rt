@@ -1,5 +1,5 @@
-//! A block that stands while vectors of it are kept: it was simulated once, and each unit has a row of the lanes in
-//! which it leaves its class.
+//! A standing block: it is simulated once and stays while vectors of it are kept, and each unit has a row of the lanes
+//! in which it leaves its class.
 
 ghost use Rattle.std.specs.Prelude.{◌≡◌, ◌≤◌, ◌<◌, ℕ, List, Bool, [], ◌∷◌, true, false, All, Contains, IfOk, OnOk, OnErr, IsTrue, length, slice_index_or};
 ghost use Rattle.net_model.specs.Answer.{bit_at};
@@ -42,8 +42,8 @@ impl Scan<'_> {
         Ok(())
     }
 
-    // Keeps a vector of the block at which a number answers otherwise than the representative of its class, if there is
-    // one: of these the one at which most units leave their classes. Returns whether there is one.
+    // Keeps a vector of the block at which `member` answers otherwise than the representative of its class, if there is
+    // one: of these the one at which the most units leave their classes. Returns whether there is one.
     pub(crate) fn keep_apart(&mut self, kept: &mut Kept, member: u32) -> Result<bool, AllocError>
         requires scan { IsScan self.old }
         requires stands { IsStanding self.old kept.old.classes }
@@ -77,7 +77,6 @@ impl Scan<'_> {
     }
 }
 
-// No row has a lane.
 fn clear_rows(rows: &mut [Lanes])
     ensures count { length rows.new ≡ length rows.old }
     ensures none { (n lane : ℕ) → n < length rows.old → lane < LANES → bit_at (slice_index_or rows.new n []) lane ≡ false }
@@ -100,7 +99,7 @@ fn find_rows(good: &GoodSim, differences: &Differences, classes: &Classes, rows:
     }
 }
 
-// The row of a number whose class is noted.
+// Returns the row of a number whose class is noted.
 fn row_of(good: &GoodSim, differences: &Differences, classes: &Classes, number: u32) -> Lanes
     requires circuit { IsCircuit good.now.circuit }
     requires few { length (vectors_of good.now) ≤ LANES }
@@ -112,7 +111,7 @@ fn row_of(good: &GoodSim, differences: &Differences, classes: &Classes, number: 
     differences.apart(lead, number)
 }
 
-// Counts in each of these lanes how many of these units leave their classes.
+// Counts in each of `lanes` how many of `numbers` leave their classes.
 fn count_leaving(rows: &[Lanes], numbers: &[u32], lanes: Lanes, tally: &mut Tally)
     requires { All (λ n. n < length rows.now) numbers.now }
 {
@@ -122,7 +121,7 @@ fn count_leaving(rows: &[Lanes], numbers: &[u32], lanes: Lanes, tally: &mut Tall
     }
 }
 
-// Finds anew the rows of the numbers that left their classes at a lane.
+// Finds again the rows of the numbers that left their classes at `lane`.
 fn find_rows_anew(
     good: &GoodSim,
     differences: &Differences,

@@ -28,7 +28,7 @@ impl Tally {
         }
     }
 
-    // Counts one more in these lanes.
+    // Counts one more in each of `lanes`.
     pub(crate) fn add(&mut self, lanes: Lanes) {
         let mut carry = lanes;
         for at in 0..self.digits.len() {
@@ -41,7 +41,7 @@ impl Tally {
         }
     }
 
-    // Of these lanes the one with the highest count: the lowest of these.
+    // Returns the lane of `lanes` with the highest count, the lowest if there are several.
     pub(crate) fn fullest(&self, lanes: Lanes) -> u32
         requires { (lane : ℕ) × (lane < LANES) × IsTrue (bit_at lanes lane) }
         ensures within { result < LANES }
@@ -59,7 +59,6 @@ impl Tally {
         fullest
     }
 
-    // The count of a lane.
     fn count(&self, lane: u32) -> u32
         requires { lane < LANES }
     {

@@ -1,19 +1,20 @@
-//! Units: of the numbers with one root, which answer alike, the root speaks for all.
+//! `Units`: the numbers with one root answer alike, so the root, their unit, is asked and waits for all of them; and
+//! the list of the numbers of each unit.
 
 ghost use Rattle.std.specs.Prelude.{◌≡◌, ◌<◌, ◌^◌, ◌++◌, ◌↔◌, ℕ, List, [], ◌∷◌, All, Contains, IfOk, OnOk, IsTrue, length, slice_index};
 ghost use Rattle.kept_vectors.specs.Units.{IsNextWith, AreChains, HasChains, AreOfUnits};
 
 use std::alloc::{AllocError, Global};
 
-// The unit of each number is its root. The numbers of a unit are a chain: by unit the lowest of them, and by number the next
-// one. Behind the last stands the count of all numbers.
+// The unit of each number is its root. The numbers of a unit are a chain: `firsts` has the lowest number of each unit,
+// and `nexts` the next one after each number. After the last comes the count of all numbers.
 pub(crate) struct Units<'a> {
     pub(crate) roots: &'a [u32],
     pub(crate) firsts: Vec<u32>,
     pub(crate) nexts: Vec<u32>,
 }
 
-// Written out, as a keeper's.
+// As for `Keeper`.
 impl Drop for Units<'_> {
     fn drop(self) {
         let Units {
@@ -25,7 +26,7 @@ impl Drop for Units<'_> {
 }
 
 impl<'a> Units<'a> {
-    // The units of numbers with these roots, this many.
+    // Returns the units of `count` numbers with these roots.
     pub(crate) fn new(alloc: Global, roots: &'a [u32], count: u32) -> Result<Units<'a>, AllocError>
         requires count { count ≡ length roots.now }
         requires within { All (λ root. root < length roots.now) roots.now }
@@ -42,7 +43,7 @@ impl<'a> Units<'a> {
         })
     }
 
-    // The unit of a number.
+    // Returns the unit of `number`.
     pub(crate) fn of(&self, number: u32) -> u32
         requires { number < length self.now.roots.now }
         ensures { result ≡ slice_index self.now.roots.now number }
@@ -50,7 +51,7 @@ impl<'a> Units<'a> {
         self.roots[number as usize]
     }
 
-    // Whether a number is its own unit.
+    // Returns whether `number` is its own unit.
     pub(crate) fn has(&self, number: u32) -> bool
         requires { number < length self.now.roots.now }
         ensures { IsTrue result ↔ (slice_index self.now.roots.now number ≡ number) }
@@ -58,7 +59,7 @@ impl<'a> Units<'a> {
         self.of(number) == number
     }
 
-    // Adds all numbers of these units.
+    // Adds all numbers of `units` to `numbers`.
     pub(crate) fn list(&self, units: &[u32], numbers: &mut Vec<u32>) -> Result<(), AllocError>
         requires chains { HasChains self.now }
         requires units { All (λ unit. unit < length self.now.roots.now) units.now }
@@ -70,7 +71,6 @@ impl<'a> Units<'a> {
         Ok(())
     }
 
-    // Adds all numbers of a unit.
     fn list_chain(&self, unit: u32, numbers: &mut Vec<u32>) -> Result<(), AllocError>
         requires chains { HasChains self.now }
         requires unit { unit < length self.now.roots.now }

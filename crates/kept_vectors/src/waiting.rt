@@ -60,7 +60,7 @@ impl Waiters {
     }
 }
 
-// By lane the units that wait there.
+// For each lane the units that wait there.
 #[derive(Drop)]
 pub(crate) struct Waiting {
     pub(crate) lanes: Vec<Waiters>,
@@ -77,7 +77,7 @@ impl Waiting {
         Ok(Waiting { lanes })
     }
 
-    // The numbers that wait at a lane.
+    // Returns the numbers that wait at `lane`.
     pub(crate) fn at(&self, lane: u32) -> &[u32]
         requires { lane < length self.now.lanes.items }
         ensures { result.now ≡ slice_index_or self.now.lanes.items lane [] }
@@ -85,7 +85,7 @@ impl Waiting {
         self.lanes[lane as usize].as_slice()
     }
 
-    // Nobody waits any more.
+    // Makes all numbers stop waiting.
     fn clear(&mut self)
         ensures count { length self.new.lanes.items ≡ length self.old.lanes.items }
         ensures empty { All (λ waiters. waiters ≡ []) self.new.lanes.items }
@@ -95,7 +95,7 @@ impl Waiting {
         }
     }
 
-    // Lets all units whose classes are noted wait at lanes from one on, and nobody else.
+    // Lets all units whose classes are noted wait as `wait` does, and no other number.
     pub(crate) fn wait_all(
         &mut self,
         good: &GoodSim,
@@ -119,7 +119,7 @@ impl Waiting {
         self.wait(good, differences, classes, numbers, from, live)
     }
 
-    // Lets each of these numbers wait at a lane if its row has the lane, and nobody else.
+    // Lets each of `numbers` whose row has `lane` wait at it, and no other number.
     pub(crate) fn wait_at(
         &mut self,
         rows: &[Lanes],
@@ -142,7 +142,7 @@ impl Waiting {
         Ok(())
     }
 
-    // Lets each unit of these numbers wait at the first lane from `from` on at which it answers otherwise than the
+    // Lets each unit of `numbers` wait at the first lane, starting at `from`, at which it answers otherwise than the
     // representative of its class, if a lane below `live` is one.
     pub(crate) fn wait(
         &mut self,
@@ -177,8 +177,8 @@ impl Waiting {
     }
 }
 
-// The first lane from `from` on at which a unit answers otherwise than the representative of its class, if one below
-// `live` is one. Of any other number none is.
+// Returns the first lane, starting at `from`, at which a unit answers otherwise than the representative of its class,
+// if one below `live` is one, else `live` or more. For a number that is no unit it returns `live`.
 fn leaves_at(
     good: &GoodSim,
     differences: &Differences,

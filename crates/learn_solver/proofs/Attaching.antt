@@ -1,4 +1,4 @@
--- Clauses are attached to a new trail, and satisfied clauses.
+-- Clauses are attached to a new trail, and clauses are satisfied.
 use Rattle.std.proofs.Common.{◌≡◌, ◌∙◌, ℕ, ◌+◌, ◌<◌, ◌≤◌, List, length, get_or, ap, subst, arith, inl, inr}
 use Rattle.std.specs.Prelude.{Bool, true, false, All, Contains, replicate}
 use Rattle.std.proofs.lemmas.Bool.{cases_lt}
@@ -48,7 +48,7 @@ ready_attached trail clauses variables h = record {
 
 -- ---- satisfied clauses
 
--- where all variables are set, a quiet clause is satisfied
+-- if all variables are set, a quiet clause is satisfied
 quiet_satisfied : (a : Assignment) → IsTrail a → AreAllSet a → (clause : Clause) → IsProper a.variables clause → IsQuiet (assigned_literals a) clause → IsSatisfied (assigned_literals a) clause
 quiet_satisfied a trail all clause inside (inl s) = s
 quiet_satisfied a trail all clause inside (inr t) =
@@ -63,7 +63,7 @@ quiet_satisfied a trail all clause inside (inr t) =
 pub all_satisfied : (a : Assignment) → IsTrail a → AreAllSet a → (clauses : List Clause) → All (IsProper a.variables) clauses → All (IsQuiet (assigned_literals a)) clauses → All (IsSatisfied (assigned_literals a)) clauses
 all_satisfied a trail all clauses inside quiet = λ k d h. quiet_satisfied a trail all (get_or clauses k d) (inside k d h) (quiet k d h)
 
--- what all clauses are, the first ones are
+-- what holds of all clauses holds of the first ones
 pub quiet_first : (assigned_literals : List Literal) (clauses first : List Clause) → BeginsWith clauses first → All (IsQuiet assigned_literals) clauses → All (IsQuiet assigned_literals) first
 quiet_first assigned_literals clauses first begins quiet = λ k d h.
     let at : get_or clauses k d ≡ get_or first k d = ap (λ cs. get_or cs k d) begins.are ∙ get_or_append_left first begins.more d k h in

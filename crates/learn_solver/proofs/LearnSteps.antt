@@ -31,7 +31,6 @@ levels_differ a trail l m i j f g ne e =
     ne (sym f.of_level ∙ (ap (λ k. (set_literal_at a k).level) same ∙ g.of_level))
 
 module _ (a : Assignment) (trail : IsTrail a) (clause : Clause) (back : ℕ) (asserts : IsAsserting a back clause) where
-  -- the clause has the asserting literal and the others
   asserting_inside : Contains clause asserts.asserting
   asserting_inside = subst (λ c. Contains c asserts.asserting) (sym asserts.is) (0, omega arith, refl)
 
@@ -69,7 +68,7 @@ module _ (a : Assignment) (trail : IsTrail a) (clause : Clause) (back : ℕ) (as
     quiet = learned_quiet;
   }
 
-  -- the clause is fresh: the literals below the present level hold the opposites of the others
+  -- the clause is fresh: below the present level the opposites of its other literals are set
   pub learned_fresh : (clauses : List Clause) → AreQuietBelow a clauses → IsFresh clauses clause asserts.asserting
   learned_fresh clauses quiet =
       let above : 0 < a.level = omega (arith, asserts.below) in
@@ -88,7 +87,7 @@ module _ (a : Assignment) (trail : IsTrail a) (clause : Clause) (back : ℕ) (as
         quiet = quiet (a.level - 1) (omega arith);
       }
 
--- the trail is ready again once the clause is in the pool and attached
+-- the trail is ready again when the clause is in the pool and attached
 pub ready_learned : (old cut new : TrailState) (clauses more : List Clause) (clause : Clause) (back number : ℕ) → IsSolverReady old clauses → IsQuietBelow old.assignment back clause
     → more ≡ clauses ++ clause ∷ [] → number ≡ length more → CutsAbove old.assignment cut.assignment back → attached_numbers cut ≡ attached_numbers old
     → Attaches (attached_numbers cut) (attached_numbers new) number → new.assignment ≡ cut.assignment → Fits new more → IsTrail new.assignment → IsSolverReady new more

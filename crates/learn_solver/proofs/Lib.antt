@@ -1,3 +1,7 @@
+pub mod MarkSteps
+pub mod TrimSteps
+pub mod TrimEnds
+pub mod Shortened
 pub mod UpTo
 pub mod Levels
 pub mod Falsity

@@ -33,7 +33,7 @@ quiet_propagated a b clauses p quiet = λ level h.
     let same = ap (λ ls. up_to ls level) p.added ∙ up_to_more a.literals p.more level above in
     subst (λ ls. All (IsQuiet ls) clauses) (sym same) (quiet level less)
 
--- below the level that is gone back to nothing changes
+-- below the back-jump level nothing changes
 pub cut_up_to : (a b : Assignment) (back level : ℕ) → CutsAbove a b back → level ≤ back → up_to a.literals level ≡ up_to b.literals level
 cut_up_to a b back level cuts le = up_to_cut a.literals b.literals (length b.literals) level cuts.prefix (λ k d within. omega (arith, cuts.cut k d within, le))
 

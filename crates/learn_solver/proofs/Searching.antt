@@ -14,7 +14,7 @@ use Rattle.learn_solver.specs.Solved.{HasLearned}
 use Rattle.learn_solver.specs.Walk.{AreUnmarked}
 use Rattle.learn_solver.proofs.Solving.{learned_within, learning_long}
 
--- another trail that is ready, too
+-- with another trail that is ready, the search is prepared too
 pub prepared_on : (old : Search) (clauses : List Clause) (trail : TrailState) (decider : ℕ) → IsSearchReady old clauses → IsSolverReady trail clauses → trail.assignment.variables ≡ old.trail.assignment.variables → decider ≡ old.decider
     → IsSearchReady (record old { trail = trail; decider = decider }) clauses
 prepared_on old clauses trail decider h ready same kept = record {
@@ -56,7 +56,7 @@ module _ (m : Miter) (conflicts : ℕ) (old : Search) (pool : List Clause) (h : 
     begins = begins_through more pool (miter_clauses m) begins h.begins;
   }
 
-  -- all that the pool has behind the miter's clauses was learned
+  -- all clauses of the pool after the miter's were learned
   pub learned_so_far : HasLearned (miter_clauses m) conflicts pool
   learned_so_far = learned_within (miter_clauses m) pool old.chains.items conflicts h.learning h.few
 

@@ -1,4 +1,4 @@
--- The logs of learned clauses, and what they are worth.
+-- The logs of learned clauses, and what they prove.
 use Rattle.std.proofs.Common.{◌≡◌, ◌≢◌, ◌∙◌, ◌⊎◌, ℕ, ◌+◌, ◌<◌, ◌≤◌, List, [], ◌∷◌, ◌++◌, length, take, refl, sym, ap, subst, arith, inl, inr}
 use Rattle.std.specs.Prelude.{Option, None, Some, Contains, map, slice_get}
 use Rattle.std.specs.Option.{option_and_then, option_map}
@@ -61,14 +61,14 @@ bare_ends clauses (chain ∷ chains) =
     ap (option_and_then (λ end. option_map (λ ends. end ∷ ends) (log_ends (clauses ++ end ∷ []) (map without_literal chains)))) (named_end clauses chain None)
     ∙ (λ i. option_and_then (λ end. option_map (λ ends. end ∷ ends) (bare_ends (clauses ++ end ∷ []) chains i)) (chain_end clauses chain))
 
--- as many chains as the budget allows
+-- as many chains as the budget allows are a spent log
 pub spends : (clauses pool : List Clause) (chains : List ChainView) (conflicts : ℕ) → IsLearning clauses pool chains → length chains ≡ conflicts → HasSpentLog clauses conflicts pool chains
 spends clauses pool chains conflicts h full = record {
   spent = record { ends = h.ends; are = h.are; full = full; fresh = h.fresh };
   alike = h.alike;
 }
 
--- what is learned within the budget
+-- clauses within the budget are learned
 pub learned_within : (clauses pool : List Clause) (chains : List ChainView) (limit : ℕ) → IsLearning clauses pool chains → length chains ≤ limit → HasLearned clauses limit pool
 learned_within clauses pool chains limit h few = record { log = chains; few = few; learned = spends clauses pool chains (length chains) h refl }
 
@@ -122,7 +122,7 @@ module _ (clauses pool : List Clause) (chains : List ChainView) (h : IsLearning 
       ends_fresh : EndsFresh (clauses ++ h.ends) chain own_end.0
       ends_fresh = record { nonempty = not_empty; at = fresh.at; is_at = fresh.is_at; fresh = fresh_alike (clauses ++ h.ends) pool h.alike own_end.0 clause fresh.at own_same fresh.fresh }
 
--- all that is in the pool was learned, whether the fresh clause came to it or not
+-- all clauses of the pool were learned, whether the fresh clause was added to it or not
 pub learned_at_most : (clauses pool : List Clause) (chains : List ChainView) (h : IsLearning clauses pool chains) (chain : ChainView) (clause : Clause) → ChainEndsIn pool chain clause → EndsFresh pool chain clause
     → (new : List Clause) → AddsAtMost pool clause new → (limit : ℕ) → length chains < limit → HasLearned clauses limit new
 learned_at_most clauses pool chains h chain clause own fresh new (inl same) limit few =

@@ -106,7 +106,7 @@ module _ (trail : TrailState) (clauses : List Clause) (ready : IsSolverReady tra
 
 -- ---- the end
 
--- where no mark is left, the walk is over
+-- if no mark is left, the walk is over
 pub walk_over : (a : Assignment) (clauses : List Clause) (marks : List Bool) (chain : ChainView) (kept : List Literal) (left place : ℕ) → ((v : ℕ) → bit_at marks v ≡ false) → IsTrailWalk a clauses marks chain kept left place
     → IsTrailWalk a clauses marks chain kept left 0
 walk_over a clauses marks chain kept left place none w = record {

@@ -85,7 +85,7 @@ module _ {a : Assignment} (trail : IsTrail a) {clauses : List Clause} {marks : L
     own_left : IsLeft a marks (place + 1) (opposite (set_literal_at a place).literal)
     own_left = record { at = place; before = omega arith; false_at = it_is_false a place inside; marked = marked }
 
-    -- while none is kept, some of the present level are left, and so this literal is of it
+    -- while none is kept, some of the present level are left, and so this literal is of that level
     pub still_present : length kept ≡ 0 → 0 < a.level → (set_literal_at a place).level ≡ a.level
     still_present none above =
         let some = open_some a marks (place + 1) w.within (omega (arith, w.pending none above, w.count)) in
@@ -146,7 +146,7 @@ module _ {a : Assignment} (trail : IsTrail a) {clauses : List Clause} {marks : L
         first_is d (suc n) e =
             subst (IsFalseOf a a.level) (sym (get_or_append_left kept (opposite (set_literal_at a place).literal ∷ []) d 0 (omega (arith, e)))) (w.first d (omega (arith, e)))
 
-    -- another literal of the present level is left, where more than one are
+    -- another literal of the present level is left if more than one are
     pub another_present : 1 < left → (k : ℕ) × (k < place) × ((set_literal_at a k).level ≡ a.level)
     another_present several =
         let step = open_step a marks place inside in
@@ -229,7 +229,7 @@ module _ {a : Assignment} (trail : IsTrail a) {clauses : List Clause} {marks : L
         ]
       ])
 
-      -- none of the present level are left where one is kept
+      -- none of the present level are left if one is kept
       none_more : (rest : ℕ) → rest ≡ marked_count a (set more (set_literal_at a place).literal.variable false) place → 0 < length kept → rest ≡ 0
       none_more rest is some = by rest refl
         where
@@ -283,7 +283,7 @@ module _ {a : Assignment} (trail : IsTrail a) {clauses : List Clause} {marks : L
       pub some_more : (set_literal_at a place).level ≡ a.level → 0 < left + opened
       some_more present = omega (arith, w.count, open_has a marks (place + 1) w.within place (omega arith) marked present)
 
--- what the trail's reason for a literal that is to be resolved away is
+-- the trail's reason for a literal that is resolved away
 pub choice_of : (a : Assignment) → IsTrail a → (place left v : ℕ) → place < length a.literals → v ≡ (set_literal_at a place).literal.variable
     → ((set_literal_at a place).level ≡ 0) ⊎ (((set_literal_at a place).level ≡ a.level) × (1 < left)) → (1 < left → (k : ℕ) × (k < place) × ((set_literal_at a k).level ≡ a.level))
     → (o : Option ℕ) → MatchOption o (IsUnset a v ⊎ HasLiteral a v (λ (s : SetLiteral). s.reason ≡ None)) (λ number. HasLiteral a v (λ (s : SetLiteral). s.reason ≡ Some number)) → IsReasonChoice a place left o

@@ -8,12 +8,13 @@ use Rattle.solver_trail.specs.Assignment.{Assignment, assigned_literals}
 use Rattle.solver_trail.specs.Trail.{TrailState}
 use Rattle.learn_solver.specs.Ready.{IsConflictClause}
 
--- Either all clauses are quiet, or the one of this number is false.
+-- Either unit propagation has nothing to do at any clause, or the clause of this number is false.
 abbrev pub IsFoundAt : TrailState → List Clause → Propagated → Type 0
 IsFoundAt trail clauses Quiet = All (IsQuiet (assigned_literals trail.assignment)) clauses
 IsFoundAt trail clauses (Conflict number) = IsConflictClause trail clauses number
 
--- At least so many literals more are set, of as many variables, which are enough for them.
+-- At least `more` further literals are set, of the same variables, and no more literals are set than there are
+-- variables.
 pub record GrowsBy (old new : Assignment) (more : ℕ) : Type 0 where
   pub variables : new.variables ≡ old.variables
   pub longer : length old.literals + more ≤ length new.literals

@@ -9,14 +9,15 @@ use Rattle.pair_miter.specs.Resolution.{SameLiterals, chain_end}
 use Rattle.solver_trail.specs.Assignment.{Assignment}
 use Rattle.learn_solver.specs.Places.{IsFalseOf, up_to}
 
--- The literal is false, by one of a level above 0 and up to this one.
+-- The literal is false, by a set literal of a level above 0 and up to `highest`.
 pub record IsLower (a : Assignment) (highest : ℕ) (l : Literal) : Type 0 where
   pub level : ℕ
   pub false_of : IsFalseOf a level l
   pub above : 0 < level
   pub up_to : level ≤ highest
 
--- The first literal is of the present level. The others are lower, and up to the back-jump level; if that is above 0, one is of it.
+-- The first literal is false and of the present level. The others are false, of levels above 0 and up to the
+-- back-jump level, which is below the present one; if the back-jump level is above 0, one of them is of it.
 pub record IsAsserting (a : Assignment) (back : ℕ) (clause : Clause) : Type 0 where
   pub asserting : Literal
   pub others : List Literal
@@ -26,19 +27,21 @@ pub record IsAsserting (a : Assignment) (back : ℕ) (clause : Clause) : Type 0 
   pub below : back < a.level
   pub highest : 0 < back → (l : Literal) × Contains others l × IsFalseOf a back l
 
--- The chain ends in the literals of the clause.
+-- The chain has an end, and this has the literals of the clause.
 pub record ChainEndsIn (clauses : List Clause) (chain : ChainView) (clause : Clause) : Type 0 where
   pub end : Clause
   pub ends : chain_end clauses chain ≡ Some end
   pub same : SameLiterals end clause
 
--- The clause is proper, and at each level below the one that is gone back to, unit propagation has nothing to do at it.
+-- The clause is proper, and at each level below `back`, which isn't above the present level, unit propagation has
+-- nothing to do at it.
 pub record IsQuietBelow (a : Assignment) (back : ℕ) (clause : Clause) : Type 0 where
   pub proper : IsProper a.variables clause
   pub below : back ≤ a.level
   pub quiet : (level : ℕ) → level < back → IsQuiet (up_to a.literals level) clause
 
--- The chain ends in the clause. It is empty at level 0, and asserting at any other one.
+-- The chain names no literal and ends in the clause, which has no variable twice. The clause is empty at level 0, and
+-- asserting at each other level.
 pub record IsLearned (a : Assignment) (clauses : List Clause) (chain : ChainView) (clause : Clause) (back : ℕ) : Type 0 where
   pub bare : chain.fresh_at ≡ None
   pub ends_in : ChainEndsIn clauses chain clause

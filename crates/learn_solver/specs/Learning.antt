@@ -5,8 +5,8 @@ use Rattle.pair_miter.specs.ChainView.{ChainView}
 use Rattle.pair_miter.specs.Log.{EndsFresh}
 use Rattle.pair_miter.specs.Resolution.{AreAlike, log_ends}
 
--- The chains end in clauses with literals, each fresh over the first clauses and the ends before it, and the learned clauses stand
--- in the pool behind the first ones.
+-- The chains end in clauses with literals, each fresh over the first clauses and the ends before it, and the pool has
+-- the first clauses and these ends after them.
 pub record IsLearning (first pool : List Clause) (chains : List ChainView) : Type 0 where
   pub ends : List Clause
   pub are : log_ends first chains ≡ Some ends

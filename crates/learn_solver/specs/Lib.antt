@@ -1,3 +1,5 @@
+pub mod Trimmed
+pub mod Needed
 pub mod Places
 pub mod Ready
 pub mod Walk

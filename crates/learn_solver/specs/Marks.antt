@@ -7,17 +7,17 @@ use Rattle.net_model.specs.Answer.{bit_at}
 use Rattle.solver_trail.specs.Assignment.{Assignment}
 use Rattle.learn_solver.specs.Walk.{marked_count, IsSetBefore, HasVariable}
 
--- how many marks are set
+-- How many marks are set.
 abbrev pub mark_count : List Bool → ℕ
 mark_count marks = count_by (λ b. b) marks
 
--- So many marks are set, and the variables that were marked have places.
+-- `left` marks are set, and the variables that were marked have places.
 pub record AreMetCounted (marks : List Bool) (met : List ℕ) (left : ℕ) : Type 0 where
   pub count : left ≡ mark_count marks
   pub inside : All (λ x. x < length marks) met
 
--- The variables of the clause are marked in addition, and so many of them newly and set at the present level: that is how many more
--- of the literals before a place are open, wherever the clause's variables are all set before it.
+-- The variables of the clause are marked in addition, and no others. For each place before which all variables of the
+-- clause are set, the literals before it that are marked and of the present level become `opened` more.
 pub record MarksClause (a : Assignment) (old new : List Bool) (clause : Clause) (opened : ℕ) : Type 0 where
   pub places : length new ≡ length old
   pub kept : (x : ℕ) → bit_at old x ≡ true → bit_at new x ≡ true

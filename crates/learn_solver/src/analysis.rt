@@ -1,4 +1,4 @@
-//! The analysis of a conflict, to the first unique implication point.
+//! The analysis of a conflict, to the first unique implication point (1-UIP).
 
 ghost use Rattle.std.specs.Prelude.{◌≡◌, ℕ, ◌<◌, ◌≤◌, IfOk, All, length, slice_index_or};
 ghost use Rattle.clause_pool.specs.Literal.{Literal};
@@ -24,8 +24,8 @@ pub(crate) struct Learned {
     pub(crate) clause: Vec<Lit>,
 }
 
-/// Resolves a false clause with reasons, to the first unique implication point of the present level and without the
-/// literals of level 0. The marks are none before and after.
+/// Resolves the false clause `conflict` with reasons, to the first unique implication point of the present level, and
+/// without literals of level 0. No variable is marked before; if the call returns no error, none is marked after.
 pub(crate) fn analyze(
     alloc: Global,
     trail: &Trail,
@@ -62,7 +62,8 @@ pub(crate) fn analyze(
     })
 }
 
-// The level of the second literal, which is the highest but for the first one's; 0 where there is none.
+// Returns the level of the second literal, which is the highest except the first one's, or 0 if there is no second
+// literal.
 fn back_level(trail: &Trail, kept: &[Lit]) -> u32
     requires trail { IsTrail trail.now.assignment }
     requires inside { All (λ (l : Literal). (0 < l.variable) × (l.variable ≤ trail.now.assignment.variables)) kept.now }

@@ -1,4 +1,5 @@
-//! Which literal is decided next: of the variable that conflicts met last, with the sign that it had last.
+//! Which literal is decided next: of the variable that conflicts met last, with the sign that it had last (phase
+//! saving).
 
 ghost use Rattle.std.specs.Prelude.{◌≡◌, ℕ, ◌<◌, ◌≤◌, ◌^◌, All, IfOk, IfSome, MatchBool, MatchOption};
 ghost use Rattle.solver_trail.specs.Assignment.{IsTrail, IsUnset};
@@ -13,14 +14,14 @@ use solver_trail::Trail;
 use std::alloc::{AllocError, Global};
 use std::marker::Model;
 
-/// The order of decisions, and the sign that each variable had last, negative at first.
+/// The order of decisions, and the sign that each variable had last, which is negative at first.
 #[derive(Drop)]
 pub(crate) struct Decider {
     queue: Queue,
     phases: Vec<bool>,
     // all newer variables of the queue are set
     place: u32,
-    // descents with an aim decide the variables up to the first of these, and those above the second are set
+    // descents with an aim decide the variables up to `highest`, and those above `low` are set
     highest: u32,
     low: u32,
 }
@@ -34,7 +35,7 @@ impl Model for Decider {
 }
 
 impl Decider {
-    /// The variables from 1 up to this one, which is decided first. All signs are negative.
+    /// Returns the decider of variables 1 to `variables`. The highest is decided first, and all signs are negative.
     pub(crate) fn new(alloc: Global, variables: u32) -> Result<Decider, AllocError>
         requires { variables < 2 ^ 31 }
         ensures { IfOk result (λ decider. decider ≡ variables) }
@@ -51,7 +52,7 @@ impl Decider {
         })
     }
 
-    /// The literal of an unset variable, with the sign that it had last. None where all variables are set.
+    /// Returns the literal of an unset variable, with the sign that it had last, or none if all variables are set.
     pub(crate) fn next(&mut self, trail: &Trail) -> Option<Lit>
         requires trail { IsTrail trail.now.assignment }
         requires variables { trail.now.assignment.variables ≡ self.old }
@@ -71,8 +72,8 @@ impl Decider {
         }
     }
 
-    /// The literal of an unset variable, with which the trail comes nearer to two true literals: one of these two, or one of
-    /// the other variables up to the highest. None where those are all set, or one of the two is false.
+    /// Returns a literal of an unset variable, to bring the two literals nearer to being true: one of these two, or
+    /// one of the other variables up to the highest. Returns none if all those are set, or one of the two is false.
     pub(crate) fn next_for(&mut self, trail: &Trail, both: &Both) -> Option<Lit>
         requires trail { IsTrail trail.now.assignment }
         requires variables { trail.now.assignment.variables ≡ self.old }
@@ -94,7 +95,7 @@ impl Decider {
         Some(self.signed(self.low))
     }
 
-    /// Has descents with an aim decide the variables up to this one, from the highest down.
+    /// Makes descents with an aim decide the variables up to `highest`, from the highest down.
     pub(crate) fn turn_to(&mut self, highest: u32)
         requires { highest ≤ self.old }
         ensures { self.new ≡ self.old }
@@ -103,7 +104,7 @@ impl Decider {
         self.low = highest;
     }
 
-    /// Keeps the signs of the literals above a level, before they are unset.
+    /// Keeps the signs of the literals of levels above `level`, before they are unset.
     pub(crate) fn leave(&mut self, trail: &Trail, level: u32)
         requires trail { IsTrail trail.now.assignment }
         requires variables { trail.now.assignment.variables ≡ self.old }
@@ -116,7 +117,8 @@ impl Decider {
         }
     }
 
-    // Keeps the sign of a literal that is about to be unset, and moves the places so that its variable is found.
+    // Keeps the sign of a literal that is about to be unset, and moves `place` and `low` so that its variable is
+    // found.
     fn keep(&mut self, lit: Lit)
         requires { lit.variable ≤ self.old }
         ensures { self.new ≡ self.old }
@@ -131,7 +133,7 @@ impl Decider {
         }
     }
 
-    /// Makes variables the newest ones, in the order in which they stood.
+    /// Makes the variables the newest ones, and keeps their order.
     pub(crate) fn renew(&mut self, alloc: Global, met: &[u32]) -> Result<(), AllocError>
         requires { All (λ x. x ≤ self.old) met.now }
         ensures { self.new ≡ self.old }
@@ -139,7 +141,7 @@ impl Decider {
         self.queue.renew_all(alloc, met)
     }
 
-    // The literal of a variable with the sign that it had last.
+    // Returns the literal of the variable with the sign that it had last.
     fn signed(&self, variable: u32) -> Lit
         requires from { 0 < variable }
         requires inside { variable ≤ self.now }
@@ -149,7 +151,7 @@ impl Decider {
     }
 }
 
-// The newest unset variable of a queue from a place on.
+// Returns the newest unset variable of the queue, starting at `place`, if there is one.
 fn newest_unset(trail: &Trail, queue: &Queue, place: u32) -> Option<u32>
     requires variables { trail.now.assignment.variables ≡ queue.now }
     requires place { place ≤ queue.now }
@@ -168,7 +170,7 @@ fn newest_unset(trail: &Trail, queue: &Queue, place: u32) -> Option<u32>
     None
 }
 
-// The highest unset variable up to this one, 0 where there is none.
+// Returns the highest unset variable up to `from`, or 0 if there is none.
 fn highest_unset(trail: &Trail, from: u32) -> u32
     requires { from ≤ trail.now.assignment.variables }
     ensures inside { result ≤ from }
@@ -181,7 +183,7 @@ fn highest_unset(trail: &Trail, from: u32) -> u32
     variable
 }
 
-// The lowest unset variable.
+// Returns the lowest unset variable, if there is one.
 fn lowest_unset(trail: &Trail, variables: u32) -> Option<u32>
     requires { trail.now.assignment.variables ≡ variables }
     ensures { MatchOption result (AreAllSet trail.now.assignment) (IsFree trail.now.assignment) }
@@ -194,7 +196,6 @@ fn lowest_unset(trail: &Trail, variables: u32) -> Option<u32>
     None
 }
 
-// Whether a variable is unset.
 fn is_unset(trail: &Trail, variable: u32) -> bool
     requires from { 0 < variable }
     requires inside { variable ≤ trail.now.assignment.variables }

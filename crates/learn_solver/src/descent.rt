@@ -1,4 +1,4 @@
-//! Down by decisions and propagation.
+//! A descent: decisions and propagation, down to a conflict.
 
 ghost use Rattle.std.specs.Prelude.{◌≡◌, ◌<◌, All, MatchOption};
 ghost use Rattle.clause_pool.specs.Partial.{IsQuiet};
@@ -14,7 +14,7 @@ use crate::decider::Decider;
 use clause_pool::{Lit, Pool};
 use solver_trail::{Propagated, Trail};
 
-/// Decides literals, with propagation before and after each, until a clause is false or nothing is left to decide: all
+/// Decides literals, and propagates before and after each, until a clause is false or nothing is left to decide: all
 /// variables are set, or no variable is left that is decided for an aim.
 pub(crate) fn descend(
     trail: &mut Trail,
@@ -41,7 +41,7 @@ pub(crate) fn descend(
     found
 }
 
-// The next literal to decide, if any.
+// Returns the next literal to decide, if any.
 fn next(trail: &Trail, decider: &mut Decider, aim: &Aim) -> Option<Lit>
     requires trail { IsTrail trail.now.assignment }
     requires variables { trail.now.assignment.variables ≡ decider.old }
@@ -55,7 +55,6 @@ fn next(trail: &Trail, decider: &mut Decider, aim: &Aim) -> Option<Lit>
     }
 }
 
-// Decides a literal and propagates.
 fn go_down(trail: &mut Trail, pool: &Pool, lit: Lit) -> Propagated
     requires ready { IsSolverReady trail.old pool.now.clauses }
     requires quiet { All (IsQuiet (assigned_literals trail.old.assignment)) pool.now.clauses }

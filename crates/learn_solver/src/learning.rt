@@ -1,4 +1,4 @@
-//! What is learned is added to the pool, and propagation goes over it from the back-jump level on.
+//! A learned clause is added to the pool and attached to the trail, at the back-jump level.
 
 ghost use Rattle.std.specs.Prelude.{◌≡◌, ◌+◌, ◌<◌, ◌^◌, ◌∷◌, ◌++◌, [], OnErr, OnOk, length};
 ghost use Rattle.pair_miter.specs.Adds.{Grows};
@@ -10,7 +10,8 @@ use clause_pool::{Lit, Pool};
 use solver_trail::{Trail, longer_pool_fits};
 use std::alloc::AllocError;
 
-/// Adds a learned clause to the pool, goes back to its back-jump level and attaches it.
+/// Adds a learned clause to the pool, goes back to its back-jump level and attaches it. After an error the pool has
+/// at most this clause in addition.
 pub(crate) fn learn(
     trail: &mut Trail,
     pool: &mut Pool,

@@ -1,8 +1,8 @@
-//! A conflict-driven clause learning solver (Marques-Silva and Sakallah 1996) over the miter of a pair of faults. It logs the
-//! resolutions of each clause that it learns.
+//! A conflict-driven clause learning solver (Marques-Silva and Sakallah 1996) over the miter of a pair of faults. It
+//! logs the resolutions of each clause that it learns.
 //!
-//! A search goes down by decisions and propagation to a clause that is false, resolves that with reasons to a clause that
-//! says why, goes back to where the learned clause would have forced a literal, and goes down again.
+//! A search decides and propagates until a clause is false, resolves that clause with reasons to a clause that says
+//! why, goes back to where the learned clause would have forced a literal, and decides again.
 //!
 //! ```text
 //! marks, marking     which variables an analysis has met
@@ -10,9 +10,10 @@
 //! analysis, learning the learned clause, and its place in the pool and on the trail
 //! queue, decider     which literal is decided next
 //! aim, descent       down to a conflict
-//! search, step       one conflict more
+//! search, step       one more conflict
 //! restarts, sweep    when to begin anew, and where to begin
-//! model, logs        what is answered
+//! model, logs        what is returned
+//! needed, trimming   a refutation without the chains that its end doesn't need
 //! solver             all of it
 //! ```
 #![tactic(auto)]
@@ -26,6 +27,7 @@ mod logs;
 mod marking;
 mod marks;
 mod model;
+mod needed;
 mod places;
 mod queue;
 mod resolving;
@@ -35,6 +37,8 @@ mod solved;
 mod solver;
 mod step;
 mod sweep;
+mod trimming;
 
 pub use solved::Solved;
 pub use solver::solve;
+pub use trimming::trim;

@@ -7,7 +7,7 @@ use pair_miter::{Chain, Log};
 use std::alloc::{AllocError, Global};
 use std::mem;
 
-/// The log of these chains, which are moved to it.
+/// Returns the log of the chains, which are moved to it.
 pub(crate) fn log_of(alloc: Global, chains: &mut Vec<Chain>) -> Result<Log, AllocError>
     ensures { IfOk result (λ log. log ≡ chains.old.items) }
 {
@@ -18,7 +18,7 @@ pub(crate) fn log_of(alloc: Global, chains: &mut Vec<Chain>) -> Result<Log, Allo
     Ok(log)
 }
 
-/// The log of these chains, moved to it without the literals that they name, and of one more.
+/// Returns the log of the chains, which are moved to it without the literals that they name, and of `last`.
 pub(crate) fn bare_log(
     alloc: Global,
     chains: &mut Vec<Chain>,

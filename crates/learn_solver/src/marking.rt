@@ -11,7 +11,8 @@ use clause_pool::Lit;
 use solver_trail::Trail;
 use std::alloc::AllocError;
 
-/// Marks the variables of a clause. Answers how many of them weren't marked before and are set at the present level.
+/// Marks the variables of the clause. Returns how many of them weren't marked before and are set at the present
+/// level.
 pub(crate) fn mark_clause(
     trail: &Trail,
     marks: &mut MetVariables,
@@ -35,7 +36,6 @@ pub(crate) fn mark_clause(
     Ok(opened)
 }
 
-// Whether a variable is set at the present level.
 fn is_present(trail: &Trail, variable: u32) -> bool
     requires trail { IsTrail trail.now.assignment }
     requires from { 0 < variable }

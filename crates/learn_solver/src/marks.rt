@@ -1,4 +1,4 @@
-//! Marks of the variables that an analysis has met, and hasn't dealt with yet.
+//! Marks of the variables that an analysis has met and still has to treat.
 
 ghost use Rattle.std.specs.Prelude.{◌≡◌, ℕ, ◌+◌, ◌<◌, false, true, IsTrue, IfOk, OnOk, OnErr, length, replicate, slice_set, All};
 ghost use Rattle.net_model.specs.Answer.{bit_at};
@@ -27,7 +27,7 @@ impl Model for MetVariables {
 }
 
 impl MetVariables {
-    /// No variable up to this one is marked.
+    /// Returns the marks of variables 0 to `variables`, none of them set.
     pub(crate) fn new(alloc: Global, variables: u32) -> Result<MetVariables, AllocError>
         ensures { IfOk result (λ marks. marks ≡ replicate (variables + 1) false) }
     {
@@ -38,7 +38,7 @@ impl MetVariables {
         })
     }
 
-    /// Whether a variable is marked.
+    /// Returns whether the variable is marked.
     pub(crate) fn has(&self, variable: u32) -> bool
         requires { variable < length self.now }
         ensures { result ≡ bit_at self.now variable }
@@ -46,7 +46,7 @@ impl MetVariables {
         self.bits.get(variable as usize)
     }
 
-    /// Marks a variable that isn't marked.
+    /// Marks a variable that isn't marked. After an error nothing has changed.
     pub(crate) fn add(&mut self, variable: u32) -> Result<(), AllocError>
         requires inside { variable < length self.old }
         requires unmarked { bit_at self.old variable ≡ false }
@@ -60,7 +60,7 @@ impl MetVariables {
         Ok(())
     }
 
-    /// Takes the mark of a variable away.
+    /// Removes the mark of a marked variable.
     pub(crate) fn remove(&mut self, variable: u32)
         requires inside { variable < length self.old }
         requires marked { bit_at self.old variable ≡ true }
@@ -70,21 +70,21 @@ impl MetVariables {
         self.left -= 1;
     }
 
-    /// Whether no variable is marked.
+    /// Returns true only if no variable is marked.
     pub(crate) fn are_clear(&self) -> bool
         ensures { IsTrue result → (variable : ℕ) → bit_at self.now variable ≡ false }
     {
         self.left == 0
     }
 
-    /// The variables that were marked since the list was cleared.
+    /// Returns the variables that were marked since the list was cleared.
     pub(crate) fn met(&self) -> &[u32]
         ensures { All (λ variable. variable < length self.now) result.now }
     {
         self.met.as_slice()
     }
 
-    /// Clears the list, and leaves the marks.
+    /// Clears the list, and leaves the marks as they are.
     pub(crate) fn clear_met(&mut self)
         ensures { self.new ≡ self.old }
     {

@@ -7,7 +7,7 @@ ghost use Rattle.learn_solver.specs.Places.{set_literal_at};
 use clause_pool::Lit;
 use solver_trail::Trail;
 
-/// The literal at a place of the trail.
+/// Returns the literal at this place of the trail.
 pub(crate) fn literal_at(trail: &Trail, place: usize) -> Lit
     requires trail { IsTrail trail.now.assignment }
     requires inside { place < length trail.now.assignment.literals }
@@ -21,7 +21,7 @@ pub(crate) fn literal_at(trail: &Trail, place: usize) -> Lit
     literals[place]
 }
 
-/// The level of the literal at a place of the trail.
+/// Returns the level of the literal at this place of the trail.
 pub(crate) fn level_at(trail: &Trail, place: usize) -> u32
     requires trail { IsTrail trail.now.assignment }
     requires inside { place < length trail.now.assignment.literals }

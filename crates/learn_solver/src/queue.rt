@@ -1,5 +1,5 @@
-//! The variables in the order in which conflicts met them, as a linked list in flat arrays: the queue of CaDiCaL (Biere
-//! and Fröhlich 2015).
+//! The variables in the order in which conflicts met them, as a linked list in flat arrays: the variable
+//! move-to-front (VMTF) queue of CaDiCaL (Biere and Fröhlich 2015).
 
 ghost use Rattle.std.specs.Prelude.{◌≡◌, ℕ, ◌<◌, ◌≤◌, ◌^◌, All, IfOk};
 ghost use Rattle.learn_solver.specs.QueueFields.{IsRing};
@@ -26,7 +26,7 @@ impl Model for Queue {
 }
 
 impl Queue {
-    /// The variables from 1 up to this one, which is the newest.
+    /// Returns the queue of variables 1 to `variables`; the highest is the newest.
     pub(crate) fn new(alloc: Global, variables: u32) -> Result<Queue, AllocError>
         requires { variables < 2 ^ 31 }
         ensures { IfOk result (λ queue. queue ≡ variables) }
@@ -56,21 +56,21 @@ impl Queue {
         self.older[0] = self.variables;
     }
 
-    /// How many variables there are.
+    /// Returns the number of variables.
     pub(crate) fn variables(&self) -> u32
         ensures { result ≡ self.now }
     {
         self.variables
     }
 
-    /// The newest variable, 0 where there is none.
+    /// Returns the newest variable, or 0 if there is none.
     pub(crate) fn newest(&self) -> u32
         ensures { result ≤ self.now }
     {
         self.older[0]
     }
 
-    /// The next older variable, 0 where there is none.
+    /// Returns the next older variable, or 0 if there is none.
     pub(crate) fn older_than(&self, variable: u32) -> u32
         requires { variable ≤ self.now }
         ensures { result ≤ self.now }
@@ -78,14 +78,14 @@ impl Queue {
         self.older[variable as usize]
     }
 
-    /// The stamp of a variable: a newer one has a higher one.
+    /// Returns the stamp of the variable: a newer one has a higher stamp.
     pub(crate) fn stamp(&self, variable: u32) -> u64
         requires { variable ≤ self.now }
     {
         self.stamps[variable as usize]
     }
 
-    /// Makes a variable the newest one.
+    /// Makes the variable the newest one.
     pub(crate) fn renew(&mut self, variable: u32)
         requires { variable ≤ self.old }
         ensures { self.new ≡ self.old }
@@ -104,7 +104,7 @@ impl Queue {
         self.stamps[at] = self.clock;
     }
 
-    /// Makes variables the newest ones, in the order in which they stood.
+    /// Makes the variables the newest ones, and keeps their order. After an error the queue has the same variables.
     pub(crate) fn renew_all(&mut self, alloc: Global, variables: &[u32]) -> Result<(), AllocError>
         requires { All (λ x. x ≤ self.old) variables.now }
         ensures { self.new ≡ self.old }
@@ -116,7 +116,7 @@ impl Queue {
         Ok(())
     }
 
-    // The variables with their stamps, the oldest first.
+    // Returns the variables with their stamps, the oldest first.
     fn by_stamp(&self, alloc: Global, variables: &[u32]) -> Result<Vec<(u64, u32)>, AllocError>
         requires { All (λ x. x ≤ self.now) variables.now }
         ensures { IfOk result (λ order. All (λ (p : ℕ × ℕ). p.1 ≤ self.now) order.items) }

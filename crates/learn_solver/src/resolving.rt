@@ -15,8 +15,8 @@ use pair_miter::Chain;
 use solver_trail::Trail;
 use std::alloc::AllocError;
 
-/// An analysis under way: the chain so far, the literals that are kept, and how many marked ones of the present level
-/// are left.
+/// An analysis under way: the chain so far, the literals that are kept, and how many marked literals of the present
+/// level are left.
 #[derive(Drop)]
 pub(crate) struct Analysis {
     pub(crate) chain: Chain,
@@ -24,7 +24,7 @@ pub(crate) struct Analysis {
     pub(crate) left: usize,
 }
 
-/// Deals with the literal at a place: where it is marked, it is kept or resolved away with its reason.
+/// Treats the literal at this place: if its variable is marked, the literal is kept or resolved away with its reason.
 pub(crate) fn visit(
     trail: &Trail,
     pool: &Pool,
@@ -46,8 +46,8 @@ pub(crate) fn visit(
     }
 }
 
-// The reason with which a marked literal is resolved away, none where it is kept: all literals of level 0 go, and those
-// of the present level but the last one.
+// Returns the reason with which a marked literal is resolved away, or none if it is kept. All literals of level 0 are
+// resolved away, and those of the present level except the last one.
 fn reason_at(trail: &Trail, place: usize, left: usize) -> Option<u32>
     requires trail { IsTrail trail.now.assignment }
     requires inside { place < length trail.now.assignment.literals }
@@ -62,7 +62,7 @@ fn reason_at(trail: &Trail, place: usize, left: usize) -> Option<u32>
     }
 }
 
-// Whether a marked literal of a level is to be resolved away.
+// Returns whether a marked literal of this level is resolved away.
 fn goes(level: u32, present: u32, left: usize) -> bool
     ensures { MatchBool result ((level ≡ 0) ⊎ ((level ≡ present) × (1 < left))) ((0 < level) × (level ≡ present → left ≤ 1)) }
 {
@@ -116,7 +116,7 @@ fn resolve(
     Ok(())
 }
 
-// How many of the present level are left once the literal at a place is dealt with.
+// Returns how many of the present level are left after the literal at this place.
 fn fewer(trail: &Trail, place: usize, left: usize) -> usize
     requires trail { IsTrail trail.now.assignment }
     requires inside { place < length trail.now.assignment.literals }

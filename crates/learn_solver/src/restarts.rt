@@ -1,6 +1,7 @@
-//! When the search restarts (Luby, Sinclair and Zuckerman 1993).
+//! When the search restarts: after Luby's intervals (Luby, Sinclair and Zuckerman 1993).
 
-/// Luby's sequence of intervals, in hundreds of conflicts, and what is left of the present one.
+/// Luby's sequence of intervals, in hundreds of conflicts, and the number of conflicts that are left of the present
+/// interval.
 #[derive(Clone, Copy)]
 pub(crate) struct Restarts {
     turn: u32,
@@ -17,13 +18,13 @@ impl Restarts {
         }
     }
 
-    /// Counts a conflict, and answers whether it is time for a restart.
+    /// Counts a conflict, and returns whether a restart is due.
     pub(crate) fn is_due(&mut self) -> bool {
         if self.left > 1 {
             self.left -= 1;
             return false;
         }
-        // Knuth's way to step: the length doubles until it is the lowest bit of the turn
+        // Knuth's step: the length doubles until it is the lowest bit of the turn
         if self.turn & self.turn.wrapping_neg() == self.length {
             self.turn = self.turn.saturating_add(1);
             self.length = 1;

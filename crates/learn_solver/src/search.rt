@@ -17,7 +17,7 @@ use pair_miter::Chain;
 use solver_trail::Trail;
 use std::alloc::{AllocError, Global};
 
-/// The trail, the order of decisions, the marks of analyses, and the chains of the clauses that are learned so far.
+/// The trail, the order of decisions, the marks of analyses, and the chains of the clauses learned so far.
 #[derive(Drop)]
 pub(crate) struct Search {
     pub(crate) trail: Trail,
@@ -26,7 +26,7 @@ pub(crate) struct Search {
     pub(crate) chains: Vec<Chain>,
 }
 
-/// A search over the clauses of a pool, with nothing set and nothing learned.
+/// Returns a search over the clauses of the pool, with nothing set and nothing learned.
 pub(crate) fn begin(alloc: Global, pool: &Pool, variables: u32) -> Result<Search, AllocError>
     requires few { variables < 2 ^ 31 }
     requires proper { All (IsProper variables) pool.now.clauses }
@@ -45,7 +45,7 @@ pub(crate) fn begin(alloc: Global, pool: &Pool, variables: u32) -> Result<Search
     })
 }
 
-// A trail to which all clauses of the pool are attached.
+// Returns a trail to which all clauses of the pool are attached.
 fn attach_all(alloc: Global, pool: &Pool, variables: u32) -> Result<Trail, AllocError>
     requires { All (IsProper variables) pool.now.clauses }
     ensures ready { IfOk result (λ trail. IsSolverReady trail pool.now.clauses) }
@@ -58,7 +58,8 @@ fn attach_all(alloc: Global, pool: &Pool, variables: u32) -> Result<Trail, Alloc
     Ok(trail)
 }
 
-/// Learns a clause from a false one. Where it has no literal, its chain is answered, and nothing is learned.
+/// Learns a clause from the false clause `conflict`. If the learned clause has no literal, its chain is returned, and
+/// nothing is added to the pool.
 pub(crate) fn learn_from(
     alloc: Global,
     search: &mut Search,
@@ -86,7 +87,7 @@ pub(crate) fn learn_from(
     Ok(None)
 }
 
-// Adds a clause to the pool and its chain to the log, and goes back to a level.
+// Adds the clause to the pool and its chain to the log, and goes back to level `back`.
 fn add(
     alloc: Global,
     search: &mut Search,
@@ -97,7 +98,6 @@ fn add(
 ) -> Result<(), AllocError>
     requires prepared { IsSearchReady search.old pool.old.clauses }
     requires ends { ChainEndsIn pool.old.clauses chain clause.now }
-    // The clause is fresh at the literal that the chain names.
     requires fresh { EndsFresh pool.old.clauses chain clause.now }
     requires quiet { IsQuietBelow search.old.trail.assignment back clause.now }
     requires few { length pool.old.clauses + 1 < 2 ^ 32 }
@@ -110,7 +110,7 @@ fn add(
     Ok(())
 }
 
-// Learns this clause, and decides the variables that its analysis met before all others.
+// Adds the clause to the pool and the trail, and makes the variables that its analysis met the first to be decided.
 fn take_in(
     alloc: Global,
     search: &mut Search,

@@ -26,8 +26,13 @@ use pair_miter::Miter;
 use solver_trail::Trail;
 use std::alloc::{AllocError, Global};
 
-/// Searches a model of a miter, and learns a clause from each conflict, up to so many. The pool, which holds the clauses of
-/// the miter, then has the learned ones behind them, after an error too, and grew only where it had no room for them.
+/// Searches a model of the miter and learns a clause from each conflict, at most `conflicts` of them. Returns
+/// `Vector` only if the vector separates the faults; `Refuted` only if the log's last chain ends in the empty clause,
+/// and before it at most `conflicts` chains end in clauses with literals; and `Spent` only if the log has exactly
+/// `conflicts` chains, and each ends in a fresh clause. The pool has the miter's clauses before. After the call it
+/// has them still, and after them the ends before the empty one, or the ends of the spent log; with a vector and
+/// after an error, the fresh ends of some chains, at most `conflicts` of them. The pool keeps its places, and grows
+/// only if they were too few for these clauses, to no more than they need.
 pub fn solve(
     alloc: Global,
     miter: &Miter,
@@ -46,7 +51,7 @@ pub fn solve(
     run(alloc, miter, &mut search, pool, conflicts)
 }
 
-// A search from its beginning to its end.
+// Runs a search from its beginning to its end.
 fn run(
     alloc: Global,
     miter: &Miter,
@@ -66,7 +71,7 @@ fn run(
     }
 }
 
-// Goes on with a search until it ends.
+// Continues a search until it ends.
 fn search_on(
     alloc: Global,
     miter: &Miter,
@@ -97,7 +102,8 @@ fn search_on(
     Ok(Solved::Spent(log_of(alloc, &mut search.chains)?))
 }
 
-// The vector of a trail by which all variables are set, and with which unit propagation has nothing to do at any clause.
+// Returns the vector of a trail that sets all variables and at which unit propagation has nothing to do at any
+// clause.
 fn vector(alloc: Global, miter: &Miter, trail: &Trail) -> Result<Vector, AllocError>
     requires trail { IsTrail trail.now.assignment }
     requires variables { trail.now.assignment.variables ≡ variable_count miter.now.circuit miter.now.f miter.now.g }

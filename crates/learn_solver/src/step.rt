@@ -1,4 +1,4 @@
-//! One step of a search: a descent, and what it teaches.
+//! One step of a search: a descent, and what is learned from it.
 
 ghost use Rattle.std.specs.Prelude.{◌+◌, ◌<◌, ◌^◌, IfOk, OnErr, length};
 ghost use Rattle.pair_miter.specs.Adds.{Grows};
@@ -23,7 +23,7 @@ pub(crate) enum SolverStep {
     Refuted(Chain),
 }
 
-/// Goes down to a false clause, and learns a clause from it.
+/// Descends to a false clause, and learns a clause from it.
 pub(crate) fn take_step(
     alloc: Global,
     miter: &Miter,

@@ -1,5 +1,5 @@
-//! A sweep from the faults outward: whether the two copies of a line can differ, line by line. Where they can't, the clauses
-//! that are learned say so, and what stands on them later is short.
+//! A sweep from the faults outward: whether the two copies of a line can differ, line by line. If they can't, the
+//! learned clauses say so, and what rests on them later is short.
 
 ghost use Rattle.std.specs.Prelude.{◌+◌, ◌<◌, ◌≤◌, ◌^◌, All, IfOk, OnErr, length};
 ghost use Rattle.pair_miter.specs.Adds.{Grows};
@@ -17,14 +17,14 @@ use pair_miter::{Chain, Copies, Miter};
 use solver_trail::Trail;
 use std::alloc::{AllocError, Global};
 
-// The most clauses that are learned for one way in which the copies of a line can differ.
+// How many clauses are learned at most for one way in which the copies of a line can differ.
 const TRIES: u32 = 5;
 
-// What the tries that settle nothing may cost together, where a try costs its conflicts and one more. Behind lines that do differ
-// the sweep would learn little, line after line, up to the whole budget of the pair.
+// What the tries that settle nothing may cost together; a try costs its conflicts and one more. After lines that do
+// differ the sweep would learn little, line after line, up to the whole budget of the pair.
 const IDLE_LIMIT: usize = 100;
 
-/// Tries each split line in the order of evaluation. Answers the last chain of a refutation, if there is one.
+/// Tries each split line in the order of evaluation. Returns the last chain of a refutation, if there is one.
 pub(crate) fn sweep(
     alloc: Global,
     miter: &Miter,
@@ -42,7 +42,6 @@ pub(crate) fn sweep(
     try_all(alloc, miter, search, pool, conflicts, lines.as_slice())
 }
 
-// Tries each of these lines.
 fn try_all(
     alloc: Global,
     miter: &Miter,
@@ -73,7 +72,7 @@ fn try_all(
     Ok(None)
 }
 
-// One copy of a line with this bit, and the other with the other one.
+// Returns the aim that one copy of the line has this bit and the other copy the other bit.
 fn apart(variables: u32, copies: Copies, bit: bool) -> Both
     requires few { variables < 2 ^ 31 }
     requires inside { AreVariables variables copies }
@@ -86,8 +85,8 @@ fn apart(variables: u32, copies: Copies, bit: bool) -> Both
     }
 }
 
-// Tries to make both literals true, unless the tries that settled nothing have cost enough. It settles something if one of the
-// two is false at its end.
+// Tries to make both literals true, unless the tries that settled nothing have cost enough. A try settles something
+// if one of the two is false at its end.
 fn attempt(
     alloc: Global,
     miter: &Miter,
@@ -125,14 +124,13 @@ fn is_settled(trail: &Trail, both: &Both) -> bool
     is_false(trail, both.first) || is_false(trail, both.second)
 }
 
-// Whether a literal is false.
 fn is_false(trail: &Trail, lit: Lit) -> bool
     requires { lit.variable ≤ trail.now.assignment.variables }
 {
     trail.value(lit.variable()) == Some(!lit.positive())
 }
 
-// Goes down to both literals true, with a few conflicts at most.
+// Takes at most `TRIES` steps of the search, to make both literals true.
 fn reach(
     alloc: Global,
     miter: &Miter,

@@ -1,4 +1,4 @@
--- Classes whose members answer alike, and what is told by the classes of the patterns themselves.
+-- Classes whose members answer alike, and what follows by the classes of the patterns themselves.
 use Rattle.std.proofs.Common.{ℕ, Bool, List, ◌++◌, sym, subst}
 use Rattle.net_model.specs.Circuit.{Circuit, IsCircuit}
 use Rattle.net_model.specs.FaultList.{fault_count}
@@ -22,7 +22,7 @@ use Rattle.listing_commands.specs.Suspects.{ClassesAnswerAlike, AreSuspectsOf}
 use Rattle.listing_commands.specs.Applied.{AreSuspectsAt}
 use Rattle.listing_commands.proofs.PartedLemmas.{parted_are_alike}
 
--- the classes of patterns answer alike to them
+-- The members of the classes of patterns answer alike to them.
 pub own_alike : {c : Circuit} {patterns : List (List Bool)} {t : ClassTable} → IsCircuit c → IsTableOf c patterns t → ClassesAnswerAlike c patterns t
 own_alike {c} {patterns} {t} is of =
     let table = answers_of_table of in
@@ -32,14 +32,14 @@ own_alike {c} {patterns} {t} is of =
 abbrev kept_with : List (List Bool) → ClassTable → KeptSoFar
 kept_with vectors table = record { vectors = vectors; table = table }
 
--- so do the classes that they make together with patterns before them
+-- So do the members of the classes that they make together with patterns before them.
 pub joined_alike : {c : Circuit} {vectors : List (List Bool)} {t : ClassTable} (before kept : List (List Bool)) → IsCircuit c → Keeps c (before ++ vectors) (nothing_kept (fault_count c)) (kept_with kept t) → IsPartedBy c (before ++ vectors) t → ClassesAnswerAlike c vectors t
 joined_alike {c} {vectors} {t} before kept is keeps parted =
     let made = answers_exist c is vectors in
     let whole = whole_after c is (before ++ vectors) (nothing_kept (fault_count c)) (kept_with kept t) (whole-first (fault_count c) (some_number c)) keeps in
     record { table = made.0; answers = made.1; alike = parted_are_alike c before vectors t made.0 is parted whole.0 made.1 }
 
--- by the classes of the patterns a number's own class stands first
+-- By the classes of the patterns a number's own class comes first.
 pub own_classes : {c : Circuit} {patterns : List (List Bool)} {t : ClassTable} {lines : List Line} {most : ℕ} {text : Text} → IsCircuit c → IsTableOf c patterns t → AreSuspectsAt c patterns t lines most text → AreSuspectsOf c patterns t lines most text
 own_classes {c} {patterns} {t} {lines} {most} {text} is of at =
     let classed = circuits_are_classed c patterns t at.table is of at.answers in

@@ -1,5 +1,5 @@
--- A list of which all that is kept is among a result's patterns splits none of their classes, and with these patterns as the list the same is
--- told as without.
+-- A list splits none of a result's classes if all that is kept of it is among the result's patterns, and with these
+-- patterns as the list the same is printed and made as without.
 use Rattle.std.proofs.Common.{◌≡◌, ◌∙◌, ℕ, zero, suc, ◌<◌, Bool, List, [], ◌∷◌, ◌++◌, length, get_or, take, sym, ap, ap₂, subst, refl, append_assoc, arith}
 use Rattle.std.specs.Prelude.{All, Contains}
 use Rattle.std.proofs.lemmas.List.{append-nil}
@@ -72,7 +72,7 @@ patterns_once of other = ap patterns_in (records_once of other)
 
 -- ---- the patterns of a valid result split classes in turn
 
--- each of these vectors splits a class of those before it, of which these are the first
+-- Each of `vectors` splits a class of the vectors before it, which begin with all of `before`.
 abbrev AreSplitting : Circuit → List (List Bool) → List (List Bool) → Type 0
 AreSplitting c before vectors = (at : ℕ) → at < length vectors → SplitsClass c (before ++ take at vectors) (get_or vectors at [])
 
@@ -99,7 +99,7 @@ in_turn {c} {records} valid = record { widths = valid_widths valid; splits = spl
 one_kept : {c : Circuit} {vectors : List (List Bool)} {old new other : KeptSoFar} → IsCircuit c → Keeps c vectors old new → Keeps c vectors old other → other ≡ new
 one_kept {c} {vectors} is one two = let rows = rows_exist c is vectors in two.by_rows rows.0 rows.1 ∙ sym (one.by_rows rows.0 rows.1)
 
--- vectors that split no class of patterns that split in turn leave their classes
+-- Vectors that split no class of patterns that split in turn leave the classes as they are.
 classes_stay : (c : Circuit) (patterns vectors kept : List (List Bool)) (t : ClassTable) → IsCircuit c → SplitInTurn c patterns → All (λ v. SplitsClass c patterns v → ⊥) vectors
     → Keeps c (patterns ++ vectors) (nothing_kept (fault_count c)) (record { vectors = kept; table = t }) → IsTableOf c patterns t
 classes_stay c patterns vectors kept t is turn none keeps =
@@ -117,13 +117,13 @@ own_list_splits_none c result of vectors kept t is kept_of among classes =
     let keeps = subst (λ (vs : List (List Bool)). Keeps c (vs ++ vectors) (nothing_kept (fault_count c)) (record { vectors = classes.kept; table = t })) (patterns_once classes.of of) classes.keeps in
     classes_stay c patterns vectors classes.kept t is (in_turn of.valid) none keeps
 
--- ---- what is told
+-- ---- what is printed and made
 
 module _ (c : Circuit) (is : IsCircuit c) (result : Text) (of : AreValidBytes c result) where
   abbrev own : List (List Bool)
   own = patterns_in of.records
 
-  -- the classes are those without the list
+  -- The classes are those without the list.
   same_classes : (t u : ClassTable) (other : AreValidBytes c result) → IsTableOf c (patterns_in other.records) t → AreClassesWith c result own u → u ≡ t
   same_classes t u other table classes =
       let turn = in_turn of.valid in
@@ -131,7 +131,7 @@ module _ (c : Circuit) (is : IsCircuit c) (result : Text) (of : AreValidBytes c 
       one_table c is joined (subst (λ (vs : List (List Bool)). IsTableOf c vs t) (patterns_once other of) table)
 
   module _ (patterns : List (List Bool)) (e : patterns ≡ own) where
-    -- the answers are those to the result's patterns
+    -- The answers are those to the result's patterns.
     same_answers : (table other : Answers) → AreAnswers c patterns table → AreAnswers c own other → other ≡ table
     same_answers table other are others = one_answers c is others (subst (λ (vs : List (List Bool)). AreAnswers c vs table) e are)
 

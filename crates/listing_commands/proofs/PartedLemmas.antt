@@ -1,4 +1,4 @@
--- Classes of vectors of which the last are those of a log.
+-- The classes of a list of vectors that ends with those of a log.
 use Rattle.std.proofs.Common.{◌≡◌, ◌∙◌, ℕ, ◌<◌, Bool, List, [], ◌++◌, length, get_or, sym, subst, arith}
 use Rattle.std.proofs.lemmas.List.Elements.{Contains-get_or, Contains-append_right}
 use Rattle.net_model.specs.Circuit.{Circuit, IsCircuit}
@@ -11,7 +11,7 @@ use Rattle.dict_rows.specs.AnswerTable.{Answers, AreAnswers, answer_to}
 use Rattle.table_dicts.proofs.FailLemmas.{is_table, patterns_are, answer_is}
 use Rattle.suspect_scores.specs.Laws.{AreAlikeIn}
 
--- the classes that vectors make, with others before them, are alike in the answers to these vectors
+-- Classes that vectors make together with others before them are alike in the answers to these vectors.
 abbrev pub PartedAreAlike : Type 0
 PartedAreAlike = (c : Circuit) (before vectors : List (List Bool)) (t : ClassTable) (table : Answers) → IsCircuit c → IsPartedBy c (before ++ vectors) t → IsWhole t → AreAnswers c vectors table → AreAlikeIn t table
 

@@ -17,7 +17,7 @@ use Rattle.run_steps.proofs.Runs.{stays_same, stays_then, not_done}
 
 -- ---- texts that are printed one after another
 
--- a text was printed, or where the run breaks off a part of it
+-- A text was printed, or if the run breaks off a part of it.
 abbrev Says : Text → Ending → State → State → Type 0
 Says text ending a b = Ends (said done text) (IsPartOf (said done text)) ending a b
 
@@ -73,7 +73,7 @@ longer_part {text} {t} {made} more part =
       order = part.order;
     }
 
--- a whole text, and then another
+-- A whole text was printed, and then another.
 says_then : {front back : Text} {ending : Ending} {a b d : State} → Says front done a b → Says back ending b d → Says (front ++ back) ending a d
 says_then {front} {back} {ending} {a} {b} {d} one two = record {
   stays = stays_then one.stays two.stays;
@@ -93,7 +93,7 @@ broken : {ending : Ending} → ending ≢ done → (ending ≡ done) ⊎ IsBroke
 broken ne (inl z) = absurd (ne z)
 broken ne (inr broke) = broke
 
--- a part of a text is a part of a longer one
+-- A part of a text is a part of a longer one.
 says_part : {text : Text} {ending : Ending} {a b : State} (more : Text) → ending ≢ done → Says text ending a b → Says (text ++ more) ending a b
 says_part {text} {ending} {a} {b} more ne e = record {
   stays = e.stays;
@@ -111,14 +111,14 @@ says_part {text} {ending} {a} {b} more ne e = record {
 
 -- ---- parts
 
--- The lines of the first vectors, so many, were printed.
+-- The lines of the first `count` vectors were printed.
 pub record ArePrinted (c : Circuit) (vectors : List (List Bool)) (count : ℕ) (a b : State) : Type 0 where
   pub within : count ≤ length vectors
   pub text : Text
   pub simulated : IsSimText c (take count vectors) text
   pub says : Ends (said done text) (IsPartOf (said done text)) done a b
 
--- What is printed of a simulation, or a part of it.
+-- The text of a simulation was printed, or a part of it.
 abbrev pub PrintsText : Circuit → List (List Bool) → Ending → State → State → Type 0
 PrintsText c vectors ending a b = (text : List ℕ) × IsSimText c vectors text × Ends (said done text) (IsPartOf (said done text)) ending a b
 
@@ -143,11 +143,11 @@ more_printed {c} {vectors} {count} {end} {text} {a} {b} {d} order within so_far 
   says = says_then so_far.says says;
 }
 
--- all vectors
+-- The lines of all vectors were printed.
 pub all_printed : {c : Circuit} {vectors : List (List Bool)} {count : ℕ} {a b : State} → length vectors ≤ count → ArePrinted c vectors count a b → PrintsText c vectors done a b
 all_printed {c} {vectors} {count} {a} {b} all so_far = (so_far.text, subst (λ (vs : List (List Bool)). IsSimText c vs so_far.text) (take_all count vectors all) so_far.simulated, so_far.says)
 
--- a part that breaks off
+-- The lines of some vectors were printed, and those of the next ones in part.
 pub broken_off : {c : Circuit} {vectors : List (List Bool)} {count end : ℕ} {ending : Ending} {text : Text} {a b d : State} → IsCircuit c → count ≤ end → end ≤ length vectors → ending ≢ done → ArePrinted c vectors count a b → IsSimTextFrom c count (slice_range vectors count end) text
     → Ends (said done text) (IsPartOf (said done text)) ending b d → PrintsText c vectors ending a d
 broken_off {c} {vectors} {count} {end} {ending} {text} {a} {b} {d} is order within ne so_far simulated says =

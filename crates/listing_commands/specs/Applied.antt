@@ -1,4 +1,4 @@
--- What is printed, or made, of a result and of vectors that were applied: a log has the numbers of these vectors.
+-- What is printed or made from a result and vectors that were applied; a log has the numbers of these vectors.
 use Rattle.std.specs.Prelude.{◌≡◌, ℕ, ◌<◌, Bool, List, ◌++◌, length}
 use Rattle.net_model.specs.Circuit.{Circuit}
 use Rattle.net_model.specs.ClassTable.{ClassTable, class_at, representative}
@@ -18,7 +18,7 @@ use Rattle.run_steps.specs.ResultLogs.{AreValidBytes}
 use Rattle.listing_commands.specs.Suspects.{IsExpectedOf, IsCoverOf}
 use Rattle.listing_commands.specs.Texts.{suspects_text}
 
--- These are the classes that the patterns of a valid result and the vectors make together.
+-- The table has the classes that the patterns of a valid result and the vectors make together.
 pub record AreClassesWith (c : Circuit) (result : Text) (vectors : List (List Bool)) (t : ClassTable) : Type 0 where
   pub of : AreValidBytes c result
   pub kept : List (List Bool)
@@ -28,8 +28,9 @@ pub record AreClassesWith (c : Circuit) (result : Text) (vectors : List (List Bo
 
 -- ---- suspects
 
--- The text lists the suspects of a log of these vectors, by these classes. The members of a class have the score of their representative.
--- With the whole log of a number's own answers one that answers alike stands first.
+-- The text lists the suspects of a log of these vectors by these classes, at most `most` of them. The members of a
+-- class have the score of their representative. If the log is the whole log of the own answers of a number that answers
+-- some vector otherwise than number 0, and `most` isn't 0, a suspect that answers as that number comes first.
 pub record AreSuspectsAt (c : Circuit) (vectors : List (List Bool)) (classes : ClassTable) (lines : List Line) (most : ℕ) (text : Text) : Type 0 where
   pub table : Answers
   pub answers : AreAnswers c vectors table
@@ -39,7 +40,8 @@ pub record AreSuspectsAt (c : Circuit) (vectors : List (List Bool)) (classes : C
   pub members : (number : ℕ) → number < table.numbers → ScoreAlike table lines number (representative classes (class_at classes number))
   pub single : (number : ℕ) → number < table.numbers → lines ≡ own_lines table number → AnswersOtherwise table number → 0 < most → StandsFirstAlike table lines number listed
 
--- That by the classes that a valid result for the circuit and the vectors make together.
+-- The text lists the suspects of a log of these vectors, at most `most` of them, by the classes that a valid result for
+-- the circuit and the vectors make together.
 pub record IsSuspectsAt (c : Circuit) (result : Text) (vectors : List (List Bool)) (lines : List Line) (most : ℕ) (text : Text) : Type 0 where
   pub classes : ClassTable
   pub classes_are : AreClassesWith c result vectors classes
@@ -47,7 +49,8 @@ pub record IsSuspectsAt (c : Circuit) (result : Text) (vectors : List (List Bool
 
 -- ---- covers
 
--- The text lists the cover of a log of these vectors, by the classes that a valid result for the circuit and the vectors make together.
+-- The text lists the cover of a log of these vectors, by the classes that a valid result for the circuit and the
+-- vectors make together.
 pub record IsCoverAt (c : Circuit) (result : Text) (vectors : List (List Bool)) (lines : List Line) (text : Text) : Type 0 where
   pub classes : ClassTable
   pub classes_are : AreClassesWith c result vectors classes
@@ -55,14 +58,15 @@ pub record IsCoverAt (c : Circuit) (result : Text) (vectors : List (List Bool)) 
 
 -- ---- the log that a chip without a fault gives
 
--- The file is that log, for these vectors, and the text is printed of it. No classes stand in it.
+-- The file is the log that a chip without a fault gives to these vectors, and the text is what is printed of it,
+-- whatever the classes are.
 pub record IsExpectedAt (c : Circuit) (vectors : List (List Bool)) (file text : Text) : Type 0 where
   pub each : (classes : ClassTable) → IsExpectedOf c vectors classes file text
 
 -- ---- bridges
 
--- The text lists the bridges of a log of these vectors, by the names of their lines. The result is valid for the circuit, and nothing else of
--- it counts.
+-- The text lists the bridges of a log of these vectors, by the names of their lines. The result is valid for the
+-- circuit, and nothing else of it matters.
 pub record IsBridgesAt (c : Circuit) (names : List Text) (result : Text) (vectors : List (List Bool)) (lines : List Line) (within most : ℕ) (text : Text) : Type 0 where
   pub of : AreValidBytes c result
   pub are : AreBridgesOf c names vectors lines within most text

@@ -1,4 +1,4 @@
--- What is printed of a result and a log as bridges.
+-- What the command `bridges` prints of a result and a log.
 use Rattle.std.specs.Prelude.{ℕ, List}
 use Rattle.net_model.specs.Circuit.{Circuit}
 use Rattle.result_records.specs.Marks.{patterns_in}

@@ -1,4 +1,4 @@
--- What is made of a result, or printed of it and a log.
+-- What is made from a result, or printed of a result and a log.
 use Rattle.std.specs.Prelude.{◌≡◌, ℕ, ◌<◌, ◌≤◌, Bool, List, length, sum_by, count_by, Any, Contains, IsTrue}
 use Rattle.net_model.specs.Circuit.{Circuit}
 use Rattle.net_model.specs.ClassTable.{ClassTable, class_at, representative}
@@ -18,7 +18,7 @@ use Rattle.text_fields.specs.Fields.{Text}
 use Rattle.run_steps.specs.ResultLogs.{AreValidBytes}
 use Rattle.listing_commands.specs.Texts.{expected_counts_text, suspects_text, cover_text}
 
--- There are answers to the patterns, and the members of a class answer alike.
+-- The circuit has answers to the patterns, and the members of a class answer alike.
 pub record ClassesAnswerAlike (c : Circuit) (patterns : List (List Bool)) (classes : ClassTable) : Type 0 where
   pub table : Answers
   pub answers : AreAnswers c patterns table
@@ -26,8 +26,8 @@ pub record ClassesAnswerAlike (c : Circuit) (patterns : List (List Bool)) (class
 
 -- ---- the log that a chip without a fault gives
 
--- The file is that log, for these patterns, and the text is printed of it. Within the limit of bytes it is read back, and with it nothing
--- is listed.
+-- The file is the log that a chip without a fault gives to these patterns, and the text is what is printed of it.
+-- Within the limit of bytes the log is read back. With it no pattern fails, and nothing is listed.
 pub record IsExpectedOf (c : Circuit) (patterns : List (List Bool)) (classes : ClassTable) (file text : Text) : Type 0 where
   pub table : Answers
   pub answers : AreAnswers c patterns table
@@ -36,7 +36,8 @@ pub record IsExpectedOf (c : Circuit) (patterns : List (List Bool)) (classes : C
   pub read_back : length file ≤ text_limit → IsReadBack table
   pub nothing : ListsNothing classes table
 
--- That for the patterns of a valid result for the circuit.
+-- The file is the log that a chip without a fault gives to the patterns of a valid result for the circuit, and the text
+-- is what is printed of it.
 pub record IsExpectedLog (c : Circuit) (result file text : Text) : Type 0 where
   pub of : AreValidBytes c result
   pub classes : ClassTable
@@ -45,8 +46,9 @@ pub record IsExpectedLog (c : Circuit) (result file text : Text) : Type 0 where
 
 -- ---- suspects
 
--- The text lists the suspects of a log, at these patterns with these classes. The members of a class have the score of their
--- representative. With the whole log of a number's own answers its class stands first.
+-- The text lists the suspects of a log at these patterns with these classes, at most `most` of them. The members of a
+-- class have the score of their representative. If the log is the whole log of the own answers of a number that answers
+-- some pattern otherwise than number 0, and `most` isn't 0, the class of that number comes first.
 pub record AreSuspectsOf (c : Circuit) (patterns : List (List Bool)) (classes : ClassTable) (lines : List Line) (most : ℕ) (text : Text) : Type 0 where
   pub table : Answers
   pub answers : AreAnswers c patterns table
@@ -56,7 +58,8 @@ pub record AreSuspectsOf (c : Circuit) (patterns : List (List Bool)) (classes : 
   pub members : (number : ℕ) → number < table.numbers → ScoreAlike table lines number (representative classes (class_at classes number))
   pub single : (number : ℕ) → number < table.numbers → lines ≡ own_lines table number → AnswersOtherwise table number → 0 < most → StandsFirst classes table lines number listed
 
--- That for a valid result for the circuit.
+-- The text lists the suspects of a log, at most `most` of them, at the patterns of a valid result for the circuit with
+-- their classes.
 pub record IsSuspectsText (c : Circuit) (result : Text) (lines : List Line) (most : ℕ) (text : Text) : Type 0 where
   pub of : AreValidBytes c result
   pub classes : ClassTable
@@ -65,8 +68,8 @@ pub record IsSuspectsText (c : Circuit) (result : Text) (lines : List Line) (mos
 
 -- ---- covers
 
--- The text lists the cover of a log, at these patterns with these classes. Each failing pattern that any number explains is explained by
--- one of the cover, and the counts sum to these patterns.
+-- The text lists the cover of a log, at these patterns with these classes. Each failing pattern that any number
+-- explains is explained by a number of the cover, and the counts sum to the number of these patterns.
 pub record IsCoverOf (c : Circuit) (patterns : List (List Bool)) (classes : ClassTable) (lines : List Line) (text : Text) : Type 0 where
   pub table : Answers
   pub answers : AreAnswers c patterns table
@@ -76,7 +79,7 @@ pub record IsCoverOf (c : Circuit) (patterns : List (List Bool)) (classes : Clas
   pub each : (line : Line) (number : ℕ) → Contains (failing table lines) line → number < table.numbers → IsTrue (explains table number line) → Any (λ choice. IsTrue (explains table choice.number line)) choices
   pub counts : sum_by (λ choice. choice.explained) choices ≡ count_by (is_explained table) (failing table lines)
 
--- That for a valid result for the circuit.
+-- The text lists the cover of a log, at the patterns of a valid result for the circuit with their classes.
 pub record IsCoverText (c : Circuit) (result : Text) (lines : List Line) (text : Text) : Type 0 where
   pub of : AreValidBytes c result
   pub classes : ClassTable

@@ -1,5 +1,5 @@
-//! The commands `suspects`, `cover`, `bridges` and `expect` with vectors that were applied: a log has the numbers of a list of vectors, and
-//! suspects are told by the classes that the result's patterns and the list make together.
+//! The commands `suspects`, `cover`, `bridges` and `expect` with vectors that were applied: a log has the numbers of a
+//! list of vectors, and suspects and covers go by the classes that the result's patterns and the list make together.
 
 ghost use Rattle.std.specs.Prelude.{◌≡◌, ℕ, Bool, List, IfOk, length, [], ◌∷◌};
 ghost use Rattle.net_model.specs.Circuit.{line_count};
@@ -17,8 +17,8 @@ ghost use Rattle.listing_commands.specs.Applied.{AreClassesWith, IsBridgesAt, Is
 ghost use Rattle.listing_commands.specs.Plans.{bridges_at_plan, cover_at_plan, expect_at_plan, suspects_at_plan};
 ghost use Rattle.listing_commands.specs.Suspects.{ClassesAnswerAlike};
 
-use crate::expects::expected_of;
-use crate::{bridged, covered, suspected};
+use crate::expect::expected_of;
+use crate::{bridges, cover, suspects};
 use class_refine::Classes;
 use diag_shelf::Shelf;
 use fault_collapse::Subject;
@@ -31,7 +31,7 @@ use table_dicts::Setting;
 
 // ---- classes
 
-// The classes that a result's patterns and a list make together.
+// Returns the classes that a result's patterns and a list make together.
 fn joined_classes(
     alloc: Global,
     subject: &Subject,
@@ -44,7 +44,7 @@ fn joined_classes(
     ensures alike { IfOk result (ClassesAnswerAlike subject.now list.now) }
     ensures are { IfOk result (λ t. (records : List Record) → IsAccepted subject.now records checked.now → AreClassesWith subject.now (text_of records) list.now t) }
 {
-    // That the circuit answers to each vector is known by this.
+    // The proof learns from this call that the circuit answers to each vector.
     subject.circuit().stands();
     let classes = classes_of(alloc, subject, checked.patterns.as_slice(), list.as_slice())?;
     Ok(classes)
@@ -52,8 +52,10 @@ fn joined_classes(
 
 // ---- suspects
 
-/// Reads and judges the netlist, then the result, then the list of vectors and then the log of the list, and prints the classes whose faults
-/// hit a failing bit of the log, best first, so many at most. The classes are those that the result's patterns and the list make together.
+/// Reads and judges the netlist `bench`, the result `results`, the list of `vectors` and the partial log `log` of this
+/// list, in this order, and prints the classes whose faults hit a failing bit of the log, best first, at most `most` of
+/// them. The classes are those that the result's patterns and the list make together. Returns errors as `list_faults`
+/// does.
 pub fn list_suspects_at<S: Shelf>(
     alloc: Global,
     shelf: &mut S,
@@ -108,14 +110,16 @@ fn suspects_of<S: Shelf>(
         patterns: list,
         classes: &classes,
     };
-    let text = suspected::text_at(alloc, &setting, &partial, most)?;
+    let text = suspects::text_at(alloc, &setting, &partial, most)?;
     say(shelf, text.as_bytes())
 }
 
 // ---- covers
 
-/// Reads and judges the netlist, then the result, then the list of vectors and then the log of the list, and prints classes that together
-/// explain the failing patterns of the log. The classes are those that the result's patterns and the list make together.
+/// Reads and judges the netlist `bench`, the result `results`, the list of `vectors` and the partial log `log` of this
+/// list, in this order, and prints classes that together explain the failing patterns of the log, as far as any class
+/// explains them. The classes are those that the result's patterns and the list make together. Returns errors as
+/// `list_faults` does.
 pub fn list_cover_at<S: Shelf>(
     alloc: Global,
     shelf: &mut S,
@@ -167,14 +171,16 @@ fn cover_of<S: Shelf>(
         patterns: list,
         classes: &classes,
     };
-    let text = covered::text_at(alloc, &setting, &partial)?;
+    let text = cover::text_at(alloc, &setting, &partial)?;
     say(shelf, text.as_bytes())
 }
 
 // ---- bridges
 
-/// Reads and judges the netlist, then the result, then the list of vectors and then the log of the list, and prints the bridges that explain
-/// all failing patterns of the log but so many, best first, so many at most. They go by the list alone.
+/// Reads and judges the netlist `bench`, the result `results`, the list of `vectors` and the partial log `log` of this
+/// list, in this order, and prints the bridges without a loop that explain some failing pattern of the log, and all
+/// except at most `within`, best first, at most `most` of them. The bridges go by the list alone. Returns errors as
+/// `list_faults` does.
 pub fn list_bridges_at<S: Shelf>(
     alloc: Global,
     shelf: &mut S,
@@ -202,7 +208,8 @@ pub fn list_bridges_at<S: Shelf>(
     )
 }
 
-// Reads and judges the result for a circuit whose lines have these names, then the list and then its log, and prints the bridges.
+// Reads and judges the result for a circuit whose lines have these names, then the list and then its log, and prints
+// the bridges.
 fn bridges_for<S: Shelf>(
     alloc: Global,
     shelf: &mut S,
@@ -248,14 +255,15 @@ fn bridges_of<S: Shelf>(
         patterns: list,
         classes: &checked.classes,
     };
-    let text = bridged::text_at(alloc, &setting, names, &partial, most, within)?;
+    let text = bridges::text_at(alloc, &setting, names, &partial, most, within)?;
     say(shelf, &text)
 }
 
 // ---- the log that a chip without a fault gives
 
-/// Reads and judges the netlist, then the result and then the list of vectors, and writes the log that a chip without a fault gives to the
-/// list under the log's name, which may be that of a file that was read.
+/// Reads and judges the netlist `bench`, the result `results` and the list of `vectors`, in this order, and writes the
+/// log that a chip without a fault gives to the list to the file `output`, which may be one of the files that were
+/// read. Returns errors as `list_faults` does.
 pub fn expect_log_at<S: Shelf>(
     alloc: Global,
     shelf: &mut S,

@@ -1,4 +1,4 @@
-//! The lines of the console.
+//! The lines of the console about faults, logs, suspects, covers and bridges.
 
 ghost use Rattle.std.specs.Prelude.{◌≡◌, ◌++◌, IfOk, OnOk, codes, decimal, string_bytes};
 ghost use Rattle.bridging_faults.specs.Texts.{bridge_word, bridges_end};
@@ -8,7 +8,7 @@ use bridging_faults::BridgeKind;
 use std::alloc::{AllocError, Global};
 use suspect_scores::{Choice, Suspect};
 
-/// The number of a fault and that of its root; the fault's name follows.
+/// Returns the beginning of a fault's line: its number and that of its root. The fault's name follows.
 #[tactic(auto, unfolding(crate::specs::Texts::line_start))]
 pub(crate) fn line_start(alloc: Global, number: u32, root: u32) -> Result<String, AllocError>
     ensures { IfOk result (λ text. string_bytes text ≡ line_start number root) }
@@ -16,7 +16,7 @@ pub(crate) fn line_start(alloc: Global, number: u32, root: u32) -> Result<String
     format!(in alloc; "{number} {root} ")
 }
 
-/// How many faults and roots there are.
+/// Returns the line with how many faults and roots there are.
 #[tactic(auto, unfolding(crate::specs::Texts::count_text))]
 pub(crate) fn count_text(alloc: Global, faults: u32, roots: u32) -> Result<String, AllocError>
     ensures { IfOk result (λ text. string_bytes text ≡ count_text faults roots) }
@@ -24,7 +24,7 @@ pub(crate) fn count_text(alloc: Global, faults: u32, roots: u32) -> Result<Strin
     format!(in alloc; "faults {faults} roots {roots}\n")
 }
 
-/// The patterns and positions of an expected log.
+/// Returns the line with the numbers of patterns and positions of an expected log.
 #[tactic(auto, unfolding(crate::specs::Texts::expected_counts_text))]
 pub(crate) fn expected_counts_text(
     alloc: Global,
@@ -76,7 +76,7 @@ pub(crate) fn push_choice(text: &mut String, choice: Choice) -> Result<(), Alloc
     writeln!(text, "{number} {explained}")
 }
 
-/// Appends how many numbers are listed, and how many failing patterns are explained of how many.
+/// Appends how many numbers are listed, how many failing patterns they explain, and how many fail.
 #[tactic(auto, unfolding(crate::specs::Texts::cover_end))]
 pub(crate) fn push_cover_end(
     text: &mut String,
@@ -92,7 +92,7 @@ pub(crate) fn push_cover_end(
     )
 }
 
-/// The word of a kind of bridges.
+/// Returns the word for this kind of bridge.
 pub(crate) fn bridge_word(kind: BridgeKind) -> &'static str
     ensures { result.now ≡ bridge_word kind }
 {
@@ -103,7 +103,8 @@ pub(crate) fn bridge_word(kind: BridgeKind) -> &'static str
     }
 }
 
-/// How many failing patterns a bridge explains, and how many others it doesn't; the names of its lines stand before.
+/// Returns the end of a bridge's line: how many failing patterns the bridge explains, and how many others it doesn't.
+/// The names of its lines come before it.
 pub(crate) fn bridge_counts(
     alloc: Global,
     explained: u32,
@@ -114,7 +115,8 @@ pub(crate) fn bridge_counts(
     format!(in alloc; " {explained} {false_patterns}\n")
 }
 
-/// How many bridges are listed of how many, how many are exact, and how many patterns are failing and logged.
+/// Returns the line with how many bridges are listed, how many were found, how many are exact, and how many patterns
+/// are failing and logged.
 #[tactic(auto, unfolding(bridging_faults::specs::Texts::bridges_end))]
 pub(crate) fn bridges_end(
     alloc: Global,

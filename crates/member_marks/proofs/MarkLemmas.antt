@@ -1,4 +1,4 @@
--- The marks that are given: with evidence for one number more, and after one pattern more.
+-- The marks that are given: with evidence for one more number, and after one more pattern.
 use Rattle.std.proofs.Common.{◌≡◌, ℕ, ◌<◌, ◌≤◌, Bool, true, false, cond, List, [], ◌∷◌, ◌++◌, length, get_or, set, replicate, Option, Some, None, refl, sym, ap, ap₂, subst, ◌∙◌, inl, inr, arith}
 use Rattle.std.specs.Prelude.{◌==◌, ◌&&◌, is_none, option_and_then, All, IsSome, MatchOption, if◌then◌else◌}
 use Rattle.std.specs.Option.{option_map, option_or}
@@ -49,14 +49,14 @@ module _ (t : ClassTable) (evidence : List Evidence) (given : List (Option Given
   pub all_marked_none : AreAllMarked t given → next_member t evidence ≡ None
   all_marked_none all = none_next t evidence (λ m below. settled m below (all m below))
 
-  -- what is looked for among the marks is the next member by the evidence
+  -- the lowest open number by the marks is the next member by the evidence
   pub open_is_next : (found : Option ℕ) → MatchOption found (AreAllMarked t given) (IsLowestOpen t given) → next_member t evidence ≡ found
   open_is_next None all = all_marked_none all
   open_is_next (Some member) lowest = lowest_is_next member lowest
 
 -- ---- marks by the representative
 
--- the mark of a number with this representative, by evidence, and by what is given
+-- the mark of a number with this representative by the evidence
 abbrev by_evidence : ℕ → List Evidence → ℕ → Option Mark
 by_evidence lead evidence n = if lead == n then Some Rep else option_map (λ e. mark_of e.proof) (find (λ e. e.member == n && e.partner == lead) evidence)
 
@@ -67,7 +67,7 @@ is_by_evidence : (t : ClassTable) (evidence : List Evidence) (n : ℕ) → numbe
 unfolding number_mark
 is_by_evidence t evidence n = refl
 
--- ---- one piece of evidence more
+-- ---- one more piece of evidence
 
 map_none : (o : Option Evidence) → option_map (λ (e : Evidence). mark_of e.proof) o ≡ None → o ≡ None
 map_none None none = refl
@@ -167,14 +167,14 @@ given_none {t} numbers all =
       low = λ n g below found. let clash : ◌≡◌ {A = Option Given} None (Some g) = sym (nothing n) ∙ found in absurd (cc);
     }
 
--- ---- one pattern more
+-- ---- one more pattern
 
 -- The second table has the numbers of the first, and no representative is lower in it.
 pub record LeadsRise (t u : ClassTable) : Type 0 where
   pub numbers : length u.class_of ≡ length t.class_of
   pub rise : (n : ℕ) → n < length t.class_of → representative t (class_at t n) ≤ representative u (class_at u n)
 
--- a representative is a number
+-- a representative is a number of the table
 pub lead_inside : (t : ClassTable) → IsWhole t → (n : ℕ) → n < length t.class_of → representative t (class_at t n) < length t.class_of
 lead_inside t whole n below = (representative-member t whole (class_at t n) (whole.classes n below)).0
 

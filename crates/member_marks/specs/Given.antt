@@ -11,7 +11,8 @@ abbrev pub given_to : List (Option Given) → ℕ → Option Given
 given_to given n = slice_index_or given n None
 
 module _ (t : ClassTable) (given : List (Option Given)) where
-  -- the mark of a number: a representative has its own, and another number what was given to it with its present representative
+  -- the mark of a number: a representative has its own, and another number has what was given to it with its present
+  -- representative
   abbrev pub given_mark : ℕ → Option Mark
   given_mark n =
       if representative t (class_at t n) == n then Some Rep
@@ -27,7 +28,8 @@ module _ (t : ClassTable) (given : List (Option Given)) where
     pub below : (n : ℕ) → n < member → IsSome (given_mark n)
     pub unmarked : given_mark member ≡ None
 
--- The marks are those that the evidence gives. The present representatives aren't lower than those that the evidence names.
+-- The marks are those that the evidence gives. The evidence is about numbers of the table, and the present
+-- representatives aren't lower than those that the evidence names or that marks were given with.
 pub record AreGiven (t : ClassTable) (evidence : List Evidence) (given : List (Option Given)) : Type 0 where
   pub whole : length given ≡ length t.class_of
   pub marks : (n : ℕ) → n < length t.class_of → number_mark t evidence n ≡ given_mark t given n

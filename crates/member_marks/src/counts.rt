@@ -13,14 +13,14 @@ pub struct MarkCounts {
 }
 
 impl MarkCounts {
-    /// No number is counted.
+    /// Returns the counts of no numbers.
     pub fn none() -> MarkCounts
         ensures { result ≡ none_counted }
     {
         MarkCounts { equal: 0, spent: 0 }
     }
 
-    /// Counts one more number, with this mark.
+    /// Counts one more number, with the mark `mark`.
     pub fn count(&mut self, mark: Mark)
         requires equal { self.old.equal + 1 < 2 ^ 32 }
         requires spent { self.old.spent + 1 < 2 ^ 32 }

@@ -1,4 +1,5 @@
-//! Which numbers of a class table are marked, by the last evidence that names each, and how many by each mark.
+//! The marks of the numbers of a class table, by the last evidence that names each, and how many are marked equal or
+//! left open.
 #![tactic(auto)]
 
 mod counts;

@@ -1,4 +1,4 @@
-//! Which numbers are marked.
+//! `Marks`: the mark of a number, and the lowest number without one.
 
 ghost use Rattle.std.specs.Prelude.{◌≡◌, ◌<◌, ◌^◌, ℕ, List, Option, length, replicate, slice_set, None, Some, IfOk, IsSome, MatchOption};
 ghost use Rattle.result_records.specs.Marks.{mark_of as mark_by};
@@ -17,7 +17,8 @@ pub struct Given {
     pub mark: Mark,
 }
 
-/// What is given to each number so far. A mark counts only while the number has the representative that it was given with.
+/// What was given to each number so far. A mark counts only while the number has the representative with which it was
+/// given.
 #[derive(Drop)]
 pub struct Marks {
     given: Vec<Option<Given>>,
@@ -32,7 +33,7 @@ impl Model for Marks {
 }
 
 impl Marks {
-    /// Nothing is given to the numbers below a limit.
+    /// Returns marks for the numbers below `numbers`, none of them given.
     pub fn none(alloc: Global, numbers: u32) -> Result<Marks, AllocError>
         ensures { IfOk result (λ marks. marks ≡ replicate numbers None) }
     {
@@ -40,7 +41,7 @@ impl Marks {
         Ok(Marks { given })
     }
 
-    /// Gives a mark to a number with this representative.
+    /// Gives the mark `mark` to `number` with the representative `partner`.
     pub fn give(&mut self, number: u32, partner: u32, mark: Mark)
         requires { number < length self.old }
         ensures { self.new ≡ slice_set self.old number (Some (record { partner = partner; mark = mark })) }
@@ -48,8 +49,9 @@ impl Marks {
         self.given[number as usize] = Some(Given { partner, mark });
     }
 
-    /// The mark of a number, if it has one: a representative has its own, and another number has what was given to it
-    /// with its present representative.
+    /// Returns the mark of `number`: a representative has its own, and another number has the one that was given to it
+    /// with its present representative. Returns none exactly if the number isn't a representative and has no mark with
+    /// its present one.
     pub fn of(&self, classes: &Classes, number: u32) -> Option<Mark>
         requires number { number < length classes.now.class_of }
         requires whole { length self.now ≡ length classes.now.class_of }
@@ -65,8 +67,9 @@ impl Marks {
         }
     }
 
-    /// The lowest number that is neither a representative nor marked. Each number below `from` is one or the other, so only
-    /// those from there on are looked at.
+    /// Returns the lowest number that is neither a representative nor marked, and none exactly if each number is a
+    /// representative or marked. Each number below `from` is one or the other, so it looks only at those starting
+    /// there.
     pub fn next_open(&self, classes: &Classes, from: u32) -> Option<u32>
         requires whole { length self.now ≡ length classes.now.class_of }
         requires below { (n : ℕ) → n < from → IsSome (given_mark classes.now self.now n) }
@@ -81,7 +84,7 @@ impl Marks {
     }
 }
 
-/// The mark that a proof gives.
+/// Returns the mark that `proof` gives.
 pub fn mark_of(proof: &Proof) -> Mark
     ensures { result ≡ mark_by proof.now }
 {

@@ -24,7 +24,7 @@ places_from x n [] = refl
 places_from x n (y ∷ ys) =
     omega (arith, one_place (eqb y x) n (filter_map (λ at. then_some (at.1 == x) at.0) (enumerate_from (n + 1) ys)), places_from x (n + 1) ys, sum_by-cons (λ z. cond (eqb z x) 1 0) y ys)
 
--- a number has as many places as it stands in the list
+-- a number has as many places as it has occurrences in the list
 pub length-places_of : (x : ℕ) (xs : List ℕ) → length (places_of x xs) ≡ count_of x xs
 unfolding places_of
 length-places_of x xs = places_from x 0 xs

@@ -11,7 +11,7 @@ pub sum_zeros : {X : Type 0} (xs : List X) → sum_by (λ x. 0) xs ≡ 0
 sum_zeros [] = refl
 sum_zeros (x ∷ xs) = omega (arith, sum_by-cons (λ x. 0) x xs, sum_zeros xs)
 
--- by rows or by columns
+-- a double sum by rows is the sum by columns
 pub sum_swapped : {X Y : Type 0} (f : X → Y → ℕ) (xs : List X) (ys : List Y) → sum_by (λ x. sum_by (f x) ys) xs ≡ sum_by (λ y. sum_by (λ x. f x y) xs) ys
 sum_swapped f [] ys = sym (sum_zeros ys)
 sum_swapped f (x ∷ xs) ys =

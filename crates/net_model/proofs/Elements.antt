@@ -27,7 +27,7 @@ pub first_or_later : {A : Type 0} (y : A) (ys : List A) (x : A) → Contains (y 
 first_or_later y ys x (zero, h, e) = inl e
 first_or_later y ys x (suc k, h, e) = inr (k, omega (arith, h), e)
 
--- one element again and again is read at any place, past the end too where it is the default
+-- in a list of one repeated element that element is read at any place, also past the end if it is the default
 pub get_or-replicate_anywhere : {A : Type 0} (n k : ℕ) (x : A) → get_or (replicate n x) k x ≡ x
 get_or-replicate_anywhere zero k x = refl
 get_or-replicate_anywhere (suc n) zero x = refl
@@ -83,7 +83,7 @@ any_from test xs x m t = list_any_at test xs m.0 x m.1 (ap test m.2 ∙ t)
 pub passing : {A : Type 0} (test : A → Bool) (xs : List A) → list_any test xs ≡ true → (x : A) × Contains xs x × (test x ≡ true)
 passing test xs t = let w = Any-from_list_any test xs t in (w.1, (w.0, w.2, w.3), w.4)
 
--- two tests that are alike on the elements
+-- two tests that agree on the elements
 pub same_any : {A : Type 0} (test other : A → Bool) (xs : List A) → ((x : A) → Contains xs x → test x ≡ other x) → list_any test xs ≡ list_any other xs
 same_any test other [] h = refl
 same_any test other (x ∷ xs) h = λ i. h x (0, omega arith, refl) i || same_any test other xs (λ y m. h y (later x xs y m)) i
@@ -113,6 +113,6 @@ Contains-from_filter test xs x m = (
   All-contains (λ y. test y ≡ true) (filter test xs) x (filter_passes test xs) m,
 )
 
--- no more pass than there are
+-- at most as many pass as there are
 pub length-filter-le : {A : Type 0} (test : A → Bool) (xs : List A) → length (filter test xs) ≤ length xs
 length-filter-le test xs = omega (arith, length-filter test xs, count_by-le-length test xs)

@@ -1,4 +1,4 @@
--- Lists in one vector, one after another.
+-- Lists that are stored one after another in one vector.
 use Rattle.std.proofs.Common.{◌≡◌, ◌∙◌, ℕ, ◌+◌, ◌-◌, ◌<◌, ◌≤◌, List, [], ◌∷◌, ◌++◌, length, map, take, drop, get_or, refl, sym, ap, arith, inl, inr, length-append, length-drop}
 use Rattle.std.specs.Prelude.{slice_range, sum_by}
 use Rattle.std.specs.List.{range_with_len}
@@ -9,13 +9,13 @@ use Rattle.std.proofs.lemmas.List.FromFn.{length-map-range_with_len, get_or-map-
 use Rattle.std.proofs.lemmas.List.Sums.{sum_by_more}
 use Rattle.net_model.specs.ListsFields.{lists_between, AreStarts}
 
--- two functions that are alike on a range
+-- two functions that agree on a range
 map_alike : {A : Type 0} (d : A) (f g : ℕ → A) (n : ℕ) → ((k : ℕ) → k < n → f k ≡ g k) → map f (range_with_len 0 n) ≡ map g (range_with_len 0 n)
 map_alike d f g n same =
     ext_get_or d (map f (range_with_len 0 n)) (map g (range_with_len 0 n)) (length-map-range_with_len f 0 n ∙ sym (length-map-range_with_len g 0 n))
     (λ k h. let below : k < n = omega (arith, h, length-map-range_with_len f 0 n) in get_or-map-range_with_len f 0 n k k d below (omega arith) ∙ same k below ∙ sym (get_or-map-range_with_len g 0 n k k d below (omega arith)))
 
--- a part stays the same where more follows
+-- a part stays the same if more follows
 part_before : (xs ys : List ℕ) (start end : ℕ) → start ≤ end → end ≤ length xs → slice_range (xs ++ ys) start end ≡ slice_range xs start end
 part_before xs ys start end h k =
     ap (take (end - start)) (drop-append-le start xs ys (omega arith))
@@ -87,7 +87,7 @@ between_count starts numbers = length-map-range_with_len (λ k. slice_range numb
 pub between_at : (starts numbers : List ℕ) (k : ℕ) → k < length starts - 1 → get_or (lists_between starts numbers) k [] ≡ slice_range numbers (get_or starts k 0) (get_or starts (k + 1) 0)
 between_at starts numbers k h = get_or-map-range_with_len (λ n. slice_range numbers (get_or starts n 0) (get_or starts (n + 1) 0)) 0 (length starts - 1) k k [] h (omega arith)
 
--- ---- so many lists so far
+-- ---- the first lists
 
 pub record AreLists (starts numbers : List ℕ) (lists : List (List ℕ)) (n : ℕ) : Type 0 where
   pub are_starts : AreStarts starts numbers

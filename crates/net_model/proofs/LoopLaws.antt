@@ -1,4 +1,4 @@
--- Gates that fit together have ranks or a walk along a loop, and there is one such walk at most.
+-- Gates that fit together have ranks or a walk along a loop, and there is at most one such walk.
 use Rattle.std.proofs.Common.{◌≡◌, ◌≢◌, ◌∙◌, ℕ, zero, suc, ◌+◌, ◌-◌, ◌<◌, ◌≤◌, ◌⊎◌, inl, inr, true, false, cond, List, [], ◌∷◌, ◌++◌, length, drop, get_or, refl, sym, subst, ap, arith, length-append}
 use Rattle.std.specs.Prelude.{Bool, Option, Some, Contains, find, option_and_then, nat_lt, ◌==◌, ◌↔◌, IsTrue}
 use Rattle.std.specs.List.{list_all, list_any}
@@ -76,7 +76,7 @@ module _ (c : Circuit) where
     | inr pins ↦ (n, omega arith, all_parts (is_removed_within c n) (pins_of c reader) pins line m)
   ]
 
-  -- the first of so many rounds within which a line is removed
+  -- the first of `n` rounds within which a line is removed
   abbrev round : ℕ → ℕ → ℕ
   round zero line = 0
   round (suc n) line = cond (is_removed_within c n line) (round n line) (suc n)
@@ -110,7 +110,7 @@ module _ (c : Circuit) where
     ]
   ]
 
-  -- where all gates are removed, the rounds are ranks
+  -- if all gates are removed, the rounds are ranks
   ranks : ((line : ℕ) → Contains (gate_lines c) line → is_removed_within c (length c.gates) line ≡ true) → IsAcyclic c
   ranks all = record {
     rank = round (length c.gates);
@@ -124,12 +124,12 @@ module _ (c : Circuit) where
 
 -- ---- after as many rounds as there are gates no further one is removed
 
--- The line goes in the round after this one.
+-- The line is removed in the round after this one.
 record GoesAfter (c : Circuit) (n line : ℕ) : Type 0 where
   pub removed : is_removed_within c (suc n) line ≡ true
   pub kept : is_removed_within c n line ≡ false
 
--- Gates each of which is removed a round later than the next.
+-- Each gate of the list is removed a round later than the next.
 record IsDescent (c : Circuit) (m : ℕ) (xs : List ℕ) : Type 0 where
   pub count : length xs ≡ suc m
   pub gates : (x : ℕ) → Contains xs x → Contains (gate_lines c) x
@@ -315,14 +315,14 @@ module _ (c : Circuit) (walk : List ℕ) (is : IsLoopWalk c walk) where
       let e : is.start + 0 ≡ is.start = omega arith in
       is.closes ∙ sym (is.visits 0 is.nonempty) ∙ ap (visited c) e
 
--- a walk doesn't close before another does
+-- a walk doesn't close before another one does
 not_sooner : (c : Circuit) (walk other : List ℕ) (is : IsLoopWalk c walk) (also : IsLoopWalk c other) → also.start + length other ≤ is.start + length walk
 not_sooner c walk other is also = elim (cases_lt (is.start + length walk) (also.start + length other)) [
   | inl sooner ↦ absurd (also.first_return is.start (is.start + length walk) (omega (arith, is.nonempty)) sooner (sym (closed c walk is)))
   | inr after ↦ after
 ]
 
--- where two walks close at once, the second doesn't start after the first
+-- if two walks close at the same visit, the second doesn't start after the first
 not_after : (c : Circuit) (walk other : List ℕ) (is : IsLoopWalk c walk) (also : IsLoopWalk c other) → is.start + length walk ≡ also.start + length other → also.start ≤ is.start
 not_after c walk other is also end = elim (cases_lt is.start also.start) [
   | inl after ↦

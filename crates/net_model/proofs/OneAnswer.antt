@@ -1,4 +1,4 @@
--- A vector has one answer of each fault, and patterns have one row each and one table.
+-- A vector has one answer for each fault, and patterns have one row each and one table.
 use Rattle.std.proofs.Common.{◌≡◌, ◌∙◌, Bool, List, [], ◌∷◌, refl, sym, ap, ap₂}
 use Rattle.std.specs.List.{AllZip}
 use Rattle.net_model.specs.declared.fault.Fault.{Fault}
@@ -9,7 +9,7 @@ use Rattle.net_model.specs.ClassTable.{ClassTable, class_table}
 use Rattle.net_model.specs.PatternRows.{IsAnswerRow, AreAnswerRows, IsTableOf}
 use Rattle.net_model.proofs.Copies.{Agrees-unique}
 
--- lists that stand in a relation, which gives one to each, are the same
+-- if a relation gives one element to each, two lists that it relates to the same list are equal
 zip_once : {A B : Type 0} (R : A → B → Type 0) → ((a : A) (x y : B) → R a x → R a y → x ≡ y) → (ks : List A) (xs ys : List B) → AllZip R ks xs → AllZip R ks ys → xs ≡ ys
 zip_once {A} {B} R one (a ∷ ks) (x ∷ xs) (y ∷ ys) first second = ap₂ (λ (z : B) (zs : List B). z ∷ zs) (one a x y first.0 second.0) (zip_once R one ks xs ys first.1 second.1)
 zip_once R one [] [] [] first second = refl

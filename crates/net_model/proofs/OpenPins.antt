@@ -1,4 +1,4 @@
--- How often a number stands in a list, and the pins of a gate that are still open.
+-- How often a number occurs in a list, and the pins of a gate that are still open.
 use Rattle.std.proofs.Common.{◌≡◌, ◌≢◌, ◌∙◌, ℕ, ◌+◌, ◌<◌, ◌⊎◌, inl, inr, true, false, not, ◌||◌, cond, List, [], ◌∷◌, ◌++◌, get_or, eqb, refl, sym, ap, arith}
 use Rattle.std.specs.Prelude.{Bool, Contains, nat_lt}
 use Rattle.std.specs.List.{list_any}
@@ -15,7 +15,7 @@ use Rattle.net_model.proofs.Elements.{any_from}
 
 -- ---- counts
 
--- so many where the test holds, else none
+-- `n` if the test holds, else 0
 abbrev pub count_if : Bool → ℕ → ℕ
 count_if b n = cond b n 0
 
@@ -57,7 +57,7 @@ module _ (sources : ℕ) (told : List ℕ) where
         | inr gate ↦ inr (Contains-from_any {eq = λ q x. eqb x q} (λ x y e. sym (eqb-true y x e)) line told gate)
       ]
 
-  -- without open pins, all pins are told
+  -- if no pin is open, all pins are told
   pub none_open : (pins : List ℕ) → open_pins sources told pins ≡ 0 → (pin : ℕ) → Contains pins pin → is_told sources told pin ≡ true
   none_open pins none pin (k, h, e) =
       elim (cases_Bool (is_told sources told pin)) [

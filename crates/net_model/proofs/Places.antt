@@ -6,7 +6,7 @@ use Rattle.net_model.specs.Wiring.{Wiring, IsWiring}
 use Rattle.net_model.proofs.Orders.{order_only, order_count}
 use Rattle.net_model.proofs.SetSoFar.{fits_from}
 
--- a gate's readers stand after it
+-- a gate's readers come after it
 pub later_place : (c : Circuit) (wiring : Wiring) → IsWiring c wiring → (place reader : ℕ) → place < length wiring.order → reader < length wiring.order
     → Feeds c (get_or wiring.order place 0) (get_or wiring.order reader 0) → place < reader
 later_place c wiring wired place reader h k feeds =

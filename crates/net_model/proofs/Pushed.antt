@@ -1,4 +1,4 @@
--- Lists that a list of vectors shows, where one vector gets items more.
+-- The lists that a list of vectors shows, if items are added to one vector.
 use Rattle.std.proofs.Common.{◌≡◌, ℕ, ◌<◌, List, [], ◌++◌, length, map, set, get_or, sym, ◌∙◌, ap, arith}
 use Rattle.std.proofs.lemmas.List.{length-map, map-set, get_or-map}
 

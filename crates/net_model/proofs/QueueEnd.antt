@@ -25,7 +25,7 @@ take_out [] x (k, h, e) = absurd (omega (arith, h))
 take_out (y ∷ ys) x (zero, h, e) = ([], ys, ap (λ z. z ∷ ys) e)
 take_out (y ∷ ys) x (suc k, h, e) = let r = take_out ys x (k, omega (arith, h), e) in (y ∷ r.0, r.1, ap (λ zs. y ∷ zs) r.2)
 
--- a list without repeats whose elements are in another is the beginning of a permutation of that
+-- a list without repeats whose elements are in another list is the beginning of a permutation of that list
 completed : (xs ys : List ℕ) → ((j k : ℕ) → j < k → k < length xs → get_or xs j 0 ≢ get_or xs k 0) → ((x : ℕ) → Contains xs x → Contains ys x)
     → (left : List ℕ) × IsPermutation ys (xs ++ left)
 completed [] ys distinct inside = (ys, IsPermutation-refl ys)
@@ -65,13 +65,13 @@ module _ (c : Circuit) where
   pub removed_later : (n m line : ℕ) → n ≤ m → is_removed_within c n line ≡ true → is_removed_within c m line ≡ true
   removed_later n m line le t = let e : n + (m - n) ≡ m = omega arith in subst (λ k. is_removed_within c k line ≡ true) e (removed_by n (m - n) line t)
 
--- no more gates are in order than there are
+-- at most as many gates are in order as there are gates
 pub queue_short : (c : Circuit) (told waits order : List ℕ) → IsQueue c told waits order → length order ≤ length c.gates
 queue_short c told waits order is =
     omega (arith, length-range_with_len c.sources (length c.gates), no_longer order (gate_lines c) is.ready.distinct (λ line m. Contains-range c.sources (length c.gates) line (is.gates line m).0 (is.gates line m).1))
 
 module _ (c : Circuit) (fits : FitsTogether c) (waits order : List ℕ) (is : IsQueue c order waits order) where
-  -- a gate in order is removed within as many rounds as it has a place
+  -- the gate at place i of the order is removed within i + 1 rounds
   removed_at : (n i : ℕ) → i < n → i < length order → is_removed_within c (suc i) (get_or order i 0) ≡ true
   removed_at zero i lt h = absurd (omega arith)
   removed_at (suc n) i lt h =
@@ -144,7 +144,7 @@ module _ (c : Circuit) (fits : FitsTogether c) (waits order : List ℕ) (is : Is
   pub rest_is : IsRest c waits
   rest_is = record { whole = is.whole; left = left_exact; sources = source_placed; onward = onward }
 
--- ---- the order, where no gate is left
+-- ---- the order, if no gate is left
 
 pub whole_order : (c : Circuit) (waits order : List ℕ) → IsQueue c order waits order → length c.gates ≤ length order → IsOrder c order
 whole_order c waits order is long =

@@ -33,7 +33,7 @@ ready_more waits order line closed none fresh distinct = record {
 
 -- ---- one reader is told
 
--- the readers so far with the one at hand are as many as there are at most
+-- the current reader occurs among the readers so far and itself at most as often as it has open pins in `old`
 pub enough_so_far : (readers old : List ℕ) (i : ℕ) → i < length readers → ((line : ℕ) → count_of line readers ≤ get_or old line 0) → count_of (get_or readers i 0) (take i readers ++ get_or readers i 0 ∷ []) ≤ get_or old (get_or readers i 0) 0
 enough_so_far readers old i h enough =
     let more = ap (count_of (get_or readers i 0)) (take_more readers i 0 h) in
@@ -120,7 +120,7 @@ module _ (readers old waits order longer : List ℕ) (reader : ℕ) (is : IsTold
     ready = ready_more less longer reader (λ line m. at_other line (not_ready line m) ∙ is.ready.closed line m) (at_reader ∙ last) not_ready is.ready.distinct;
   }
 
-  -- the step of the loop over readers, at the values that it leaves
+  -- the step of the loop over readers, for the values that it leaves
   pub told_closed : (left : ℕ) (o l : List ℕ) → left ≡ get_or waits reader 0 - 1 → o ≡ set waits reader left → (left ≢ 0) × (l ≡ longer) → IsTold (readers ++ reader ∷ []) old o order l
   unfolding less
   told_closed left o l e f (some, same) = rw (same, f, e) (told_open (λ none. some (e ∙ none)))
@@ -231,7 +231,7 @@ module _ (c : Circuit) (readers : List (List ℕ)) (are : AreReaders c readers) 
 pub source_pins : (c : Circuit) (line : ℕ) → line < c.sources → pins_of c line ≡ []
 source_pins c line h = let t : nat_lt line c.sources ≡ true = lt-ltb line c.sources h in rw t refl
 
--- The queue of the gates below n, at first.
+-- The queue of the gates below n at the start.
 pub record IsStart (c : Circuit) (n : ℕ) (waits order : List ℕ) : Type 0 where
   pub whole : length waits ≡ n
   pub counts : (line : ℕ) → line < n → get_or waits line 0 ≡ open_pins c.sources [] (pins_of c line)
@@ -304,7 +304,7 @@ module _ (c : Circuit) (n : ℕ) (waits order : List ℕ) (is : IsStart c n wait
     ready = ready_more more order n closed_before (at_end ∙ none_is) (λ line m e. absurd (omega (arith, (is.gates line m).1, e))) is.ready.distinct;
   }
 
-  -- the step of the loop over gates, at the values that it leaves
+  -- the step of the loop over gates, for the values that it leaves
   pub start_more : (o l : List ℕ) → o ≡ waits ++ pins ∷ [] → ((pins ≡ 0) × (l ≡ order ++ n ∷ [])) ⊎ ((pins ≢ 0) × (l ≡ order)) → IsStart c (n + 1) o l
   unfolding more
   start_more o l e (inl (none, f)) = rw (e, f) (start_ready none)

@@ -1,4 +1,4 @@
--- The positions that two faults reach: those that show a split line, and those at which the faults stand.
+-- The positions that two faults reach: those that show a split line, and the sites of the faults.
 use Rattle.std.proofs.Common.{◌≡◌, ◌⊎◌, ◌∙◌, ℕ, ◌<◌, List, [], ◌∷◌, ◌++◌, length, get_or, refl, sym, ap, arith, subst, inl, inr}
 use Rattle.std.specs.Prelude.{Bool, true, false, All, Contains, ◌||◌, is_some}
 use Rattle.std.specs.Bool.{then_some}
@@ -18,7 +18,7 @@ use Rattle.net_model.proofs.ScopeLaws.{none_split}
 
 -- ---- faults at positions
 
--- a fault of the circuit stands at one of its positions, if at one
+-- if a fault of the circuit is at a position, the position is one of the circuit's
 pub site_inside : (c : Circuit) (f : Fault) (at : ℕ) → IsFaultOf c f → is_some (stuck_position f at) ≡ true → at < length c.positions
 site_inside c Free at is t = cc
 site_inside c (Stuck (Stem line) bit) at is t = cc
@@ -34,14 +34,14 @@ pub stands : (fault : Fault) (site : Site) (at : ℕ) (bit : Bool) → fault ≡
 stands fault site at bit is here =
     ap (λ (h : Fault). is_some (stuck_position h at)) (is ∙ ap (λ (s : Site). Stuck s bit) here) ∙ ap (λ b. is_some (then_some b bit)) (eq-eqb at at refl)
 
--- without faults none is reached
+-- without faults no position is reached
 pub none_reached : (c : Circuit) (at : ℕ) → is_reached c Free Free at ≡ false
 unfolding is_reached
 none_reached c at = ap (λ b. b || false || false) (none_split c Free Free (get_or c.positions at 0) refl refl)
 
 -- ---- positions that wait, split line by split line
 
--- The positions that show one of these lines wait, and none that shows no split line.
+-- The positions that show one of these lines wait; a position that shows no split line doesn't.
 pub record AreShown (c : Circuit) (f g : Fault) (lines : List ℕ) (waits : ℕ → Bool) : Type 0 where
   pub woken : (at : ℕ) → at < length c.positions → Contains lines (get_or c.positions at 0) → waits at ≡ true
   pub only : (at : ℕ) → waits at ≡ true → is_split c f g (get_or c.positions at 0) ≡ true
@@ -53,7 +53,6 @@ none_shown c f g waits none = record {
 }
 
 module _ (c : Circuit) (wiring : Wiring) (is : IsWiring c wiring) where
-  -- those that show a line are positions
   pub shown_inside : (line room : ℕ) (shown : List ℕ) → shown ≡ get_or wiring.showing line [] → room ≡ length c.positions → All (λ at. at < room) shown
   shown_inside line room shown e all k d h =
       let below = is.showing.below line (get_or shown k d) (subst (λ xs. Contains xs (get_or shown k d)) e (Contains-get_or shown k d h)) in
@@ -78,7 +77,7 @@ module _ (c : Circuit) (wiring : Wiring) (is : IsWiring c wiring) where
       ];
     }
 
-    -- once they wait for all split lines, and for both faults, those that are reached do
+    -- once the positions of all split lines and of both faults wait, those that are reached wait
     pub shown_reached : (lines : List ℕ) (waits between all : ℕ → Bool) → AreShown c f g lines waits → ((line : ℕ) → line < line_count c → is_split c f g line ≡ true → Contains lines line)
         → ((at : ℕ) → between at ≡ (waits at || is_some (stuck_position f at))) → ((at : ℕ) → all at ≡ (between at || is_some (stuck_position g at)))
         → (at : ℕ) → at < length c.positions → all at ≡ is_reached c f g at

@@ -1,4 +1,5 @@
--- The relevant lines of a pair: with a gate's line all that the gate reads, and the lines of reached positions.
+-- The relevant lines of a pair: if a gate's line is relevant, all that the gate reads is, and the lines of reached
+-- positions are.
 use Rattle.std.proofs.Common.{◌≡◌, ◌∙◌, ℕ, zero, suc, ◌<◌, inl, inr, true, eqb, length, get_or, refl, arith, subst}
 use Rattle.std.specs.Prelude.{Contains, ◌==◌}
 use Rattle.std.specs.List.{list_any, range_with_len}
@@ -17,7 +18,7 @@ module _ (c : Circuit) where
   leads_itself zero line = eq-eqb line line refl
   leads_itself (suc n) line = let here : eqb line line ≡ true = eq-eqb line line refl in rw here refl
 
-  -- what a gate reads leads wherever the gate's line leads, with one gate more
+  -- what a gate reads leads to each line that the gate's line leads to, with one gate more
   leads_within-back : (n read reader line : ℕ) → Feeds c read reader → leads_within c n reader line ≡ true → leads_within c (suc n) read line ≡ true
   leads_within-back zero read reader line m t =
       let same : reader ≡ line = eqb-true reader line t in
@@ -32,7 +33,7 @@ module _ (c : Circuit) where
             or_right (read == line) (list_any (leads_within c (suc n) read) (pins_of c line)) (any_from (leads_within c (suc n) read) (pins_of c line) w.0 w.1 (leads_within-back n read reader w.0 m w.2))
       ]
 
-  -- what a gate reads leads wherever the gate's line leads
+  -- what a gate reads leads to each line that the gate's line leads to
   pub leads_back : IsAcyclic c → (read reader line : ℕ) → Feeds c read reader → leads_to c reader line ≡ true → leads_to c read line ≡ true
   unfolding leads_to
   leads_back a read reader line m t = no_longer c a read (length c.gates) line (a.bounded line) ∙ leads_within-back (length c.gates) read reader line m t

@@ -1,4 +1,4 @@
--- Bits of one word, and of two words one behind another.
+-- Bits of one word, and of two consecutive words.
 use Rattle.std.proofs.Common.{◌≡◌, ◌∙◌, ℕ, zero, suc, ◌+◌, ◌-◌, ◌*◌, ◌/◌, ◌%◌, ◌<◌, ◌≤◌, ◌^◌, true, false, cond, eqb, min, max, refl, sym, ap, arith, inl, inr}
 use Rattle.std.specs.Prelude.{not, nat_lt, ◌==◌, ◌&&◌, ◌||◌, bit_and, bit_or, bit_xor, if◌then◌else◌}
 use Rattle.std.specs.Int.{bit_at, bit_not, trailing_zeros, w64}
@@ -11,7 +11,7 @@ use Rattle.net_model.specs.Rows.{bit_of}
 
 -- ---- tests of two digits
 
--- what holds of each two digits
+-- what holds of every two digits
 both_digits : (P : ℕ → ℕ → Type 0) → P 0 0 → P 0 1 → P 1 0 → P 1 1 → (m n : ℕ) → m < 2 → n < 2 → P m n
 both_digits P a b c d zero zero h k = a
 both_digits P a b c d zero (suc zero) h k = b
@@ -102,13 +102,13 @@ bit-masked word count k =
           ap (λ b. bit_of word k && b) (ap (λ d. d == 1) (bit_at_mask_above 0 count k past)) ∙ (and-false (bit_of word k) ∙ ap (λ b. b && bit_of word k) (sym no))
     ]
 
--- ---- 64 bits of two words one behind another
+-- ---- 64 bits of two consecutive words
 
--- the low bits of a number are those of what it leaves
+-- the low bits of a number are those of its remainder
 pub digit_left : (n w i : ℕ) → i < w → bit_at (n % 2 ^ w) i ≡ bit_at n i
 digit_left n w i h = sym (bit_at_cat_low (n / 2 ^ w) w (n % 2 ^ w) i h) ∙ ap (λ m. bit_at m i) (shr_split n w)
 
--- a number that is shifted up has no low bits, and its others above
+-- a number that is shifted up has no low bits, and has its own bits above
 pub digit_up_low : (n k i : ℕ) → i < k → bit_at (n * 2 ^ k) i ≡ 0
 digit_up_low n k i h = let e : n * 2 ^ k + 0 ≡ n * 2 ^ k = omega arith in ap (λ m. bit_at m i) (sym e) ∙ (bit_at_cat_low n k 0 i h ∙ bit_at-zero i)
 

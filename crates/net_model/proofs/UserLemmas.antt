@@ -1,4 +1,4 @@
--- The readers of each line, as they are added.
+-- The readers of each line, while they are added.
 use Rattle.std.proofs.Common.{◌≡◌, ◌≢◌, ◌∙◌, ℕ, ◌+◌, ◌-◌, ◌<◌, ◌≤◌, inl, inr, List, [], ◌∷◌, ◌++◌, length, take, set, get_or, eqb, refl, sym, subst, ap, arith, add-zero, mul-zero, length-append}
 use Rattle.std.specs.Prelude.{Bool, true, false, Option, None, Some, replicate, sum_by, slice_get, nat_lt, if◌then◌else◌}
 use Rattle.std.specs.Option.{option_map_or}
@@ -15,7 +15,6 @@ use Rattle.net_model.proofs.Orders.{reader_is_gate}
 use Rattle.net_model.proofs.Elements.{slice_get-none}
 use Rattle.net_model.proofs.OpenPins.{count_if, count_same, count_other, count_has}
 
--- so many, if the test holds
 if_zero : (b : Bool) → count_if b 0 ≡ 0
 if_zero true = refl
 if_zero false = refl
@@ -32,7 +31,7 @@ adds_none reader readers = record {
   each = λ line other h. omega (arith, if_zero (eqb other reader));
 }
 
--- ---- the line at hand gets one user more
+-- ---- the current line gets one user more
 
 module _ (lines : List ℕ) (i user : ℕ) (new : List (List ℕ)) (h : i < length lines) (inside : get_or lines i 0 < length new) where
   abbrev pub added : List (List ℕ)
@@ -53,7 +52,7 @@ module _ (lines : List ℕ) (i user : ℕ) (new : List (List ℕ)) (h : i < leng
   pub other_count : (line : ℕ) → get_or lines i 0 ≢ line → count_of line (take (i + 1) lines) ≡ count_of line (take i lines)
   other_count line ne = taken line ∙ count_other line (take i lines) (get_or lines i 0) ne
 
-  -- a line has as many users more as it has places in the lines so far
+  -- a line has one user more for each of its occurrences in the lines so far
   pub longer_more : (line before : ℕ) → length (users_at new line) ≡ before + count_of line (take i lines) → length (users_at added line) ≡ before + count_of line (take (i + 1) lines)
   longer_more line before was =
       elim (cases_eq (get_or lines i 0) line) [
@@ -65,7 +64,7 @@ module _ (reader : ℕ) (lines : List ℕ) (i : ℕ) (old new : List (List ℕ))
   pub within : get_or lines i 0 < length new
   within = omega (arith, inside, is.whole)
 
-  -- the line at hand gets the reader
+  -- the current line gets the reader
   here_one : (other : ℕ) → count_of other (users_at new (get_or lines i 0) ++ reader ∷ []) ≡ count_of other (users_at new (get_or lines i 0)) + (count_if (eqb other reader) 1)
   here_one other =
       elim (cases_eq other reader) [
@@ -104,7 +103,7 @@ module _ (reader : ℕ) (lines : List ℕ) (i : ℕ) (old new : List (List ℕ))
         ];
   }
 
--- ---- the gates below one as readers
+-- ---- the gates below one gate as readers
 
 -- the gate of a line, and its pins
 gate_found : (c : Circuit) (n : ℕ) → c.sources ≤ n → n < line_count c → (gate : Gate) × (slice_get c.gates (n - c.sources) ≡ Some gate) × (pins_of c n ≡ gate.pins)
@@ -125,7 +124,7 @@ pub record AreReadersBelow (c : Circuit) (n : ℕ) (readers : List (List ℕ)) :
   pub long : (line : ℕ) → line < line_count c → length (users_at readers line) ≡ sum_by (λ gate. count_of line gate.pins) (take (n - c.sources) c.gates)
   pub rest : (line reader : ℕ) → line < line_count c → n ≤ reader → count_of reader (users_at readers line) ≡ 0
 
--- what no gate drives reads nothing
+-- a line that no gate drives reads nothing
 reads_none : (c : Circuit) (line reader : ℕ) → (c.sources ≤ reader → reader < line_count c → ⊥) → count_of line (pins_of c reader) ≡ 0
 reads_none c line reader never =
     elim (cases_eq (count_of line (pins_of c reader)) 0) [

@@ -1,4 +1,4 @@
--- The users of lines, number by number, and users that get new numbers.
+-- The users of lines, number by number, and users with new numbers.
 use Rattle.std.proofs.Common.{◌≡◌, ◌≢◌, ℕ, suc, ◌+◌, ◌<◌, ◌≤◌, ◌⊎◌, List, [], ◌∷◌, ◌++◌, length, map, get_or, set, refl, sym, ◌∙◌, ap, subst, arith, inl, inr}
 use Rattle.std.specs.Prelude.{All, Contains, replicate, sum_by}
 use Rattle.std.proofs.lemmas.Bool.{cases_eq, cases_lt}

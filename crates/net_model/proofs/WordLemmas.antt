@@ -9,7 +9,7 @@ use Rattle.std.proofs.lemmas.Nat.{same_from_place, mod_below}
 use Rattle.net_model.specs.Rows.{bit_of, word_bit, rows_of, row_at, row_bit, AreWords, IsWordSet}
 use Rattle.net_model.proofs.RowLemmas.{IsPlace, length-rows_of, length-row, get_or-rows_of, get_or-row}
 
--- the lowest bits of a word, so many
+-- the lowest `count` bits of a word
 pub record HasLowBits (count bits word : ℕ) : Type 0 where
   pub fits : word < 2 ^ 64
   pub low : (k : ℕ) → k < 64 → bit_of word k ≡ (nat_lt k count && bit_of bits k)
@@ -25,14 +25,13 @@ module _ (stride width rows : ℕ) (words : List ℕ) (row word bits low : ℕ) 
   within : row * stride + word < length words
   within = omega (arith, place.within, at_word)
 
-  -- the bits of the word that is written
   word_bit-written : (k : ℕ) → k / 64 ≡ word → word_bit after (row * stride) k ≡ (nat_lt (k % 64) (width - word * 64) && bit_of bits (k % 64))
   unfolding after
   word_bit-written k e =
       ap (λ w. bit_of (get_or (set words (row * stride + word) low) (row * stride + w) 0) (k % 64)) e
       ∙ (ap (λ w. bit_of w (k % 64)) (get_or-set_same words (row * stride + word) low 0 within) ∙ has.low (k % 64) (mod_below k 64 (omega arith)))
 
-  -- every other bit is as it was
+  -- every other bit is as before
   word_bit-kept : (r k : ℕ) → k / 64 < stride → (r ≡ row → k / 64 ≡ word → ⊥) → word_bit after (r * stride) k ≡ word_bit words (r * stride) k
   unfolding after
   word_bit-kept r k h apart =
@@ -43,7 +42,7 @@ module _ (stride width rows : ℕ) (words : List ℕ) (row word bits low : ℕ) 
   in_stride : (k : ℕ) → k < width → k / 64 < stride
   in_stride k h = omega (arith, h, are.enough)
 
-  -- the row that is written, at the places of the word
+  -- the bits of the written row at the places of the word
   bit-written : (k : ℕ) → k < width → k / 64 ≡ word → row_bit (rows_of stride width rows after) row k ≡ bit_of bits (k % 64)
   bit-written k h e =
       let below : nat_lt (k % 64) (width - word * 64) ≡ true = let at = k % 64 in let l : k % 64 < width - word * 64 = omega (arith, h, e) in grind (arith, l, nat_tests) in

@@ -1,14 +1,15 @@
--- Gates on the way into an order, each after those that it reads.
+-- Gates while they are being ordered, each after those that it reads.
 use Rattle.std.specs.Prelude.{◌≡◌, ◌≢◌, ℕ, ◌+◌, ◌<◌, ◌≤◌, ◌⊎◌, Bool, true, false, not, List, [], ◌++◌, length, take, slice_index, slice_index_or, sum_by, Contains, Some, count_by, nat_lt, ◌==◌, ◌||◌, if◌then◌else◌}
 use Rattle.std.specs.List.{list_all, list_any}
 use Rattle.net_model.specs.declared.topological.Parts.{Parts}
 use Rattle.net_model.specs.Circuit.{Circuit, circuit_with, line_count, pins_of, Feeds}
 use Rattle.net_model.specs.LoopWalk.{is_left, visited}
 
+-- the circuit of the parts
 abbrev pub parts_circuit : Parts → Circuit
 parts_circuit parts = circuit_with parts.sources parts.gates.items parts.positions.items
 
--- how often a number stands in a list
+-- how often a number occurs in a list
 abbrev pub count_of : ℕ → List ℕ → ℕ
 count_of x xs = count_by (λ y. y == x) xs
 
@@ -17,7 +18,7 @@ count_of x xs = count_by (λ y. y == x) xs
 abbrev pub users_at : List (List ℕ) → ℕ → List ℕ
 users_at users line = slice_index_or users line []
 
--- The user is added to each of these lines, as often as the line stands among them.
+-- The user is added to each of these lines, as often as the line occurs among them.
 pub record AddsUser (user : ℕ) (lines : List ℕ) (old new : List (List ℕ)) : Type 0 where
   pub whole : length new ≡ length old
   pub total : sum_by length new ≡ sum_by length old + length lines
@@ -37,23 +38,25 @@ pub record AreReaders (c : Circuit) (readers : List (List ℕ)) : Type 0 where
 
 -- ---- the queue of ready gates
 
--- whether a line is a source or one of these gates
+-- whether a line is a source or is in `told`
 abbrev pub is_told : ℕ → List ℕ → ℕ → Bool
 is_told sources told line = nat_lt line sources || list_any (λ gate. gate == line) told
 
--- how many pins read neither a source nor one of these gates
+-- how many pins read neither a source nor a gate in `told`
 abbrev pub open_pins : ℕ → List ℕ → List ℕ → ℕ
 open_pins sources told pins = count_by (λ pin. not (is_told sources told pin)) pins
 
+-- how many open pins the gate of a line has
 abbrev pub waits_at : List ℕ → ℕ → ℕ
 waits_at waits line = slice_index_or waits line 0
 
--- The gates in order have no open pins, and none stands twice.
+-- The gates in `order` have no open pins, and none occurs twice.
 pub record AreReady (waits order : List ℕ) : Type 0 where
   pub closed : (line : ℕ) → Contains order line → waits_at waits line ≡ 0
   pub distinct : (j k : ℕ) → j < k → k < length order → slice_index order j ≢ slice_index order k
 
--- One pin of each of these readers is closed. Those that have no open pin are in order, the further ones at its end.
+-- For each reader as many pins are closed as `readers` has it. `longer` is `order` with further readers at its end. It
+-- has each reader without open pins, no gate with open pins, and none twice.
 pub record IsTold (readers old waits order longer : List ℕ) : Type 0 where
   pub whole : length waits ≡ length old
   pub fewer : (line : ℕ) → waits_at waits line + count_of line readers ≡ waits_at old line
@@ -63,7 +66,8 @@ pub record IsTold (readers old waits order longer : List ℕ) : Type 0 where
   pub all : (line : ℕ) → Contains readers line → waits_at waits line ≡ 0 → Contains longer line
   pub ready : AreReady waits longer
 
--- The gates without open pins are in order, each after those that it reads. The readers of the sources and of the gates in `told` know of them.
+-- The gates without open pins are in `order`, each once and after the gates that it reads. `waits` counts the pins that
+-- read neither a source nor a gate in `told`.
 pub record IsQueue (c : Circuit) (told waits order : List ℕ) : Type 0 where
   pub whole : length waits ≡ line_count c
   pub counts : (line : ℕ) → line < line_count c → waits_at waits line ≡ open_pins c.sources told (pins_of c line)
@@ -74,21 +78,22 @@ pub record IsQueue (c : Circuit) (told waits order : List ℕ) : Type 0 where
 
 -- ---- the gates that are left
 
+-- whether a line has no open pins
 abbrev pub is_placed : List ℕ → ℕ → Bool
 is_placed waits line = waits_at waits line == 0
 
--- whether all these lines are placed
+-- whether all of `lines` are placed
 abbrev pub are_placed : List ℕ → List ℕ → Bool
 are_placed waits lines = list_all (is_placed waits) lines
 
--- The lines that aren't placed are those that are left of the circuit, and each is a gate that reads another.
+-- The lines that aren't placed are those that are left of the circuit, and each is a gate that reads another such line.
 pub record IsRest (c : Circuit) (waits : List ℕ) : Type 0 where
   pub whole : length waits ≡ line_count c
   pub left : (line : ℕ) → line < line_count c → is_left c line ≡ not (is_placed waits line)
   pub sources : (line : ℕ) → line < c.sources → is_placed waits line ≡ true
   pub onward : (line : ℕ) → line < line_count c → is_placed waits line ≡ false → are_placed waits (pins_of c line) ≡ false
 
--- The first visits of the walk, no gate twice, after which one of them comes again.
+-- The first visits of the walk, no gate twice; the next visit is the gate at place `back` again.
 pub record AreVisits (c : Circuit) (lines : List ℕ) (back : ℕ) : Type 0 where
   pub within : back < length lines
   pub visits : (k : ℕ) → k < length lines → visited c k ≡ Some (slice_index lines k)

@@ -4,7 +4,8 @@ use Rattle.net_model.specs.Circuit.{Circuit, IsCircuit, line_count, pins_of}
 use Rattle.net_model.specs.FaultList.{destinations}
 use Rattle.net_model.specs.Order.{IsOrder}
 
--- The gates in an order; for each line the places in that order of the gates that read it, and the observed positions that show it.
+-- An order of the gates; for each line the places in that order of the gates that read it, and the observed positions
+-- that show it.
 pub record Wiring : Type 0 where
   pub order : List ℕ
   pub readers : List (List ℕ)
@@ -13,7 +14,7 @@ pub record Wiring : Type 0 where
 abbrev pub wiring_with : List ℕ → List (List ℕ) → List (List ℕ) → Wiring
 wiring_with order readers showing = record { order = order; readers = readers; showing = showing }
 
--- For each line the numbers, below a count, of those that use it.
+-- For each line `users` has exactly the numbers below `count` that use it.
 pub record AreUsers (count : ℕ) (uses : ℕ → List ℕ) (users : List (List ℕ)) : Type 0 where
   pub all : (line number : ℕ) → number < count → Contains (uses number) line → Contains (slice_index_or users line []) number
   pub below : (line number : ℕ) → Contains (slice_index_or users line []) number → number < count
@@ -27,7 +28,7 @@ reads_at c order place = pins_of c (slice_index order place)
 abbrev pub shows_at : Circuit → ℕ → List ℕ
 shows_at c position = slice_index c.positions position ∷ []
 
--- The wiring is that of the circuit. A line has as many users as destinations: a reader for each pin that reads it.
+-- The wiring belongs to the circuit. A line has as many users as destinations: one reader for each pin that reads it.
 pub record IsWiring (c : Circuit) (w : Wiring) : Type 0 where
   pub circuit : IsCircuit c
   pub order : IsOrder c w.order

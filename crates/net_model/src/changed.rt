@@ -5,7 +5,8 @@ ghost use Rattle.net_model.specs.Scope.{first_changed};
 
 use crate::fault::{Fault, Site};
 
-/// The first line that a fault can change, if it can change one.
+/// Returns the first line that the fault can change: its stem, or the line of its pin's gate. Returns none exactly for
+/// no fault and for one at a position: these change no line.
 #[inline]
 pub fn first_changed(fault: Fault) -> Option<u32>
     ensures { result ≡ first_changed fault }

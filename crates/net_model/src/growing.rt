@@ -1,11 +1,11 @@
-//! Lists by number, each of which grows at its end.
+//! Lists by number; each grows at its end.
 
 ghost use Rattle.std.specs.Prelude.{◌≡◌, ◌<◌, ◌∷◌, [], ◌++◌, IfOk, OnOk, OnErr, length, map, replicate, slice_index_or, slice_set};
 
 use std::alloc::{AllocError, Global};
 use std::marker::Model;
 
-/// A list for each number below a count, as of those that use each line of a circuit.
+/// A list for each number below a count, for example the users of each line of a circuit.
 #[derive(Drop)]
 pub struct GrowingLists<T> {
     pub(crate) lists: Vec<Vec<T>>,
@@ -20,7 +20,7 @@ impl<T> Model for GrowingLists<T> {
 }
 
 impl<T: Drop> GrowingLists<T> {
-    /// An empty list for each number.
+    /// Returns `count` empty lists.
     pub fn none(alloc: Global, count: usize) -> Result<GrowingLists<T>, AllocError>
         ensures { IfOk result (λ lists. lists ≡ replicate count []) }
     {
@@ -31,7 +31,7 @@ impl<T: Drop> GrowingLists<T> {
         Ok(GrowingLists { lists })
     }
 
-    /// Adds an element to the list of a number. After an error nothing has changed.
+    /// Adds `element` to the list of `number`. After an error nothing has changed.
     pub fn add(&mut self, number: usize, element: T) -> Result<(), AllocError>
         requires { number < length self.old }
         ensures ok { OnOk result (self.new ≡ slice_set self.old number (slice_index_or self.old number [] ++ element ∷ [])) }
@@ -41,14 +41,14 @@ impl<T: Drop> GrowingLists<T> {
         Ok(())
     }
 
-    /// How many lists there are.
+    /// Returns the number of lists.
     pub fn count(&self) -> usize
         ensures { result ≡ length self.now }
     {
         self.lists.len()
     }
 
-    /// The list of a number.
+    /// Returns the list of `number`.
     pub fn at(&self, number: usize) -> &[T]
         requires { number < length self.now }
         ensures { result.now ≡ slice_index_or self.now number [] }

@@ -1,4 +1,4 @@
-//! Lists of numbers, one after another in one vector.
+//! Lists of numbers, stored one after another in one vector.
 
 ghost use Rattle.std.specs.Prelude.{◌≡◌, ◌<◌, ◌≤◌, ◌^◌, [], IfOk, length, sum_by, slice_index_or, slice_range};
 
@@ -6,7 +6,7 @@ use crate::users::Users;
 use std::alloc::{AllocError, Global};
 use std::marker::Model;
 
-// List k is the part of the numbers between starts k and k + 1.
+// List k is the numbers from start k up to start k + 1.
 #[derive(Drop)]
 pub(crate) struct Lists {
     starts: Vec<u32>,
@@ -26,7 +26,7 @@ impl Model for Lists {
 }
 
 impl Lists {
-    // The users of each line.
+    // Stores the users of each line.
     pub(crate) fn of_users(alloc: Global, users: &Users) -> Result<Lists, AllocError>
         requires lines { length users.now < 2 ^ 32 }
         requires numbers { sum_by length users.now < 2 ^ 32 }

@@ -1,11 +1,12 @@
-//! What a gate makes of its pins, said once for bits, lanes, pairs and clauses.
+//! What a gate makes of its pins, defined once for bits, lanes, pairs and clauses.
 
 ghost use Rattle.std.specs.Prelude.{◌≡◌};
 ghost use Rattle.net_model.specs.Gate.{operation_of, inverts};
 
 use crate::gate::Kind;
 
-/// An operation over any number of pins in any order: 1 where all of them are 1, where any of them is, or where an odd number is.
+/// An operation over any number of pins in any order: 1 if all of them are 1, if any of them is, or if an odd number
+/// is.
 #[derive(Clone, Copy)]
 pub enum Fold {
     AllOf,
@@ -21,7 +22,7 @@ pub enum Operation {
 }
 
 impl Kind {
-    /// What a gate of this kind makes of its pins. A constant is all of no pins, or any of none.
+    /// Returns what a gate of this kind makes of its pins. A constant is all of no pins, or any of none.
     #[inline]
     pub fn operation(self) -> Operation
         ensures { result ≡ operation_of self }
@@ -36,7 +37,7 @@ impl Kind {
         }
     }
 
-    /// Whether a gate of this kind shows the opposite of what its operation gives.
+    /// Returns whether a gate of this kind shows the opposite of what its operation gives.
     #[inline]
     pub fn inverts(self) -> bool
         ensures { result ≡ inverts self }

@@ -5,7 +5,7 @@ ghost use Rattle.net_model.specs.Fault.{stuck_pin, stuck_stem, stuck_position};
 
 use crate::fault::{Fault, Site};
 
-/// The value at which the fault sticks the stem of a line, if it does.
+/// Returns the value at which the fault sticks the stem of `line`, or none exactly if the fault isn't there.
 #[inline]
 pub fn stuck_stem(fault: Fault, line: u32) -> Option<bool>
     ensures { result ≡ stuck_stem fault line }
@@ -16,7 +16,7 @@ pub fn stuck_stem(fault: Fault, line: u32) -> Option<bool>
     }
 }
 
-/// The value at which it sticks a pin of a line's gate.
+/// Returns the value at which the fault sticks a pin of the gate of `line`, or none exactly if the fault isn't there.
 #[inline]
 pub fn stuck_pin(fault: Fault, line: u32, pin: u32) -> Option<bool>
     ensures { result ≡ stuck_pin fault line pin }
@@ -27,7 +27,7 @@ pub fn stuck_pin(fault: Fault, line: u32, pin: u32) -> Option<bool>
     }
 }
 
-/// The value at which it sticks an observed position.
+/// Returns the value at which the fault sticks an observed position, or none exactly if the fault isn't there.
 #[inline]
 pub fn stuck_position(fault: Fault, position: u32) -> Option<bool>
     ensures { result ≡ stuck_position fault position }

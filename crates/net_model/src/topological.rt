@@ -1,4 +1,4 @@
-//! The order in which gates can be evaluated, or the loop that leaves none.
+//! The order of evaluation, made by a queue of ready gates, or the walk along a loop.
 
 ghost use Rattle.std.specs.Prelude.{◌≡◌, ◌≤◌, ◌<◌, ◌+◌, ◌^◌, ℕ, not, false, [], length, drop, find, IfOk, OnOk, All};
 ghost use Rattle.std.specs.List.{range_with_len};
@@ -10,7 +10,7 @@ use crate::gate::{Gate, Pins};
 use crate::users::Users;
 use std::alloc::{AllocError, Global};
 
-// What a circuit is built of.
+// The parts from which a circuit is built.
 #[derive(Drop)]
 pub(crate) struct Parts {
     pub(crate) sources: u32,
@@ -18,8 +18,8 @@ pub(crate) struct Parts {
     pub(crate) positions: Vec<u32>,
 }
 
-// The gates in an order in which they can be evaluated, as far as it goes, and for each line the open pins of its gate: those that
-// read a gate whose readers aren't told yet.
+// The gates in an order of evaluation, as far as it goes, and for each line the number of open pins of its gate. A pin
+// is open if it reads a gate whose readers haven't been told yet.
 #[derive(Drop)]
 pub(crate) struct Queue {
     pub(crate) waits: Vec<u32>,
@@ -27,7 +27,7 @@ pub(crate) struct Queue {
 }
 
 impl Queue {
-    // Closes one pin of each of these readers; a gate without open pins is ready.
+    // Closes one pin of each of `readers`, and adds each gate that then has no open pin to the order.
     fn tell(&mut self, readers: &[u32]) -> Result<(), AllocError>
         requires ready { AreReady self.old.waits.items self.old.order.items }
         requires enough { (line : ℕ) → count_of line readers.now ≤ waits_at self.old.waits.items line }
@@ -44,7 +44,8 @@ impl Queue {
     }
 }
 
-// Orders the gates topologically (Kahn 1962): the order is itself the queue of the gates whose readers are still to be told.
+// Orders the gates topologically (Kahn 1962): the order is itself the queue of the gates whose readers are still to be
+// told.
 pub(crate) fn sorted(alloc: Global, parts: &Parts, readers: &Users) -> Result<Queue, AllocError>
     requires fits { FitsTogether (parts_circuit parts.now) }
     requires readers { AreReaders (parts_circuit parts.now) readers.now }
@@ -60,7 +61,7 @@ pub(crate) fn sorted(alloc: Global, parts: &Parts, readers: &Users) -> Result<Qu
     Ok(queue)
 }
 
-// The gates that read each line.
+// Returns the gates that read each line.
 pub(crate) fn readers_of(alloc: Global, parts: &Parts) -> Result<Users, AllocError>
     requires { FitsTogether (parts_circuit parts.now) }
     ensures { IfOk result (λ readers. AreReaders (parts_circuit parts.now) readers) }
@@ -73,7 +74,7 @@ pub(crate) fn readers_of(alloc: Global, parts: &Parts) -> Result<Users, AllocErr
     Ok(readers)
 }
 
-// The open pins at first, and the gates that read sources alone.
+// Returns the queue at the start: the open pins, and the gates that read sources alone.
 fn ready_gates(alloc: Global, parts: &Parts) -> Result<Queue, AllocError>
     requires { FitsTogether (parts_circuit parts.now) }
     ensures { IfOk result (λ queue. IsQueue (parts_circuit parts.now) [] queue.waits.items queue.order.items) }
@@ -90,7 +91,7 @@ fn ready_gates(alloc: Global, parts: &Parts) -> Result<Queue, AllocError>
     Ok(Queue { waits, order })
 }
 
-// How many of these lines are gates.
+// Returns how many of `lines` are gates.
 fn gate_count(sources: u32, lines: &[u32]) -> u32
     requires { length lines.now < 2 ^ 32 }
     ensures { result ≡ open_pins sources [] lines.now }
@@ -98,7 +99,7 @@ fn gate_count(sources: u32, lines: &[u32]) -> u32
     lines.iter().filter(|line| **line >= sources).count() as u32
 }
 
-// The lines that a line's gate reads.
+// Returns the lines that the gate of `line` reads.
 fn pins_of(parts: &Parts, line: u32) -> &[u32]
     requires fits { FitsTogether (parts_circuit parts.now) }
     requires from { parts.now.sources ≤ line }
@@ -109,7 +110,7 @@ fn pins_of(parts: &Parts, line: u32) -> &[u32]
     parts.gates[(line - parts.sources) as usize].pins.as_slice()
 }
 
-// The first of these lines that isn't placed.
+// Returns the first of `lines` that isn't placed.
 fn first_left(lines: &[u32], waits: &[u32]) -> Option<u32>
     requires { All (λ line. line < length waits.now) lines.now }
     ensures { result ≡ find (λ line. not (is_placed waits.now line)) lines.now }
@@ -120,7 +121,7 @@ fn first_left(lines: &[u32], waits: &[u32]) -> Option<u32>
         .find(|line| waits[*line as usize] != 0)
 }
 
-// The walk along a loop, where some gate isn't placed.
+// Returns the walk along a loop, if some gate isn't placed.
 pub(crate) fn walk(alloc: Global, parts: &Parts, waits: &[u32]) -> Result<Pins, AllocError>
     requires fits { FitsTogether (parts_circuit parts.now) }
     requires rest { IsRest (parts_circuit parts.now) waits.now }
@@ -132,7 +133,7 @@ pub(crate) fn walk(alloc: Global, parts: &Parts, waits: &[u32]) -> Result<Pins, 
     pins_from(alloc, visits.lines.as_slice(), visits.back as usize)
 }
 
-// The gates that the walk visits before one comes a second time, and which of them that is.
+// The gates that the walk visits before one comes a second time, and the place of that one among them.
 #[derive(Drop)]
 struct FirstVisits {
     lines: Vec<u32>,
@@ -161,7 +162,7 @@ fn visited_lines(alloc: Global, parts: &Parts, waits: &[u32]) -> Result<FirstVis
     }
 }
 
-// The lines from one of them on.
+// Returns the lines starting at place `start`.
 fn pins_from(alloc: Global, lines: &[u32], start: usize) -> Result<Pins, AllocError>
     requires { start ≤ length lines.now }
     ensures { IfOk result (λ pins. pins ≡ drop start lines.now) }
@@ -173,7 +174,7 @@ fn pins_from(alloc: Global, lines: &[u32], start: usize) -> Result<Pins, AllocEr
     Ok(pins)
 }
 
-// So many numbers from the first on.
+// Returns `count` numbers, starting at `first`.
 fn numbers_from(alloc: Global, first: u32, count: usize) -> Result<Vec<u32>, AllocError>
     requires { first + count < 2 ^ 32 }
     ensures { IfOk result (λ numbers. numbers.items ≡ range_with_len first count) }

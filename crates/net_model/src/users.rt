@@ -1,4 +1,4 @@
-//! The users of each line, one after another.
+//! The users of each line.
 
 ghost use Rattle.std.specs.Prelude.{◌≡◌, ◌<◌, All, OnOk, length, map, slice_index};
 ghost use Rattle.net_model.specs.Topological.{AddsUser};
@@ -6,11 +6,11 @@ ghost use Rattle.net_model.specs.Topological.{AddsUser};
 use crate::growing::GrowingLists;
 use std::alloc::AllocError;
 
-// The numbers of those that use each line: of the gates that read it, one for each pin, or of the observed positions that show it.
+// The users of each line, as numbers: the gates that read it, one for each pin, or the observed positions that show it.
 pub(crate) type Users = GrowingLists<u32>;
 
 impl GrowingLists<u32> {
-    // A user of all these lines.
+    // Adds `user` to the list of each of `lines`.
     pub(crate) fn add_all(&mut self, user: u32, lines: &[u32]) -> Result<(), AllocError>
         requires { All (λ line. line < length self.old) lines.now }
         ensures { OnOk result (AddsUser user lines.now self.old self.new) }
@@ -21,7 +21,7 @@ impl GrowingLists<u32> {
         Ok(())
     }
 
-    // Gives each user its new number.
+    // Replaces each user by its new number.
     pub(crate) fn renumber(&mut self, numbers: &[u32])
         requires { All (All (λ user. user < length numbers.now)) self.old }
         ensures { self.new ≡ map (map (λ user. slice_index numbers.now user)) self.old }
@@ -32,7 +32,7 @@ impl GrowingLists<u32> {
     }
 }
 
-// Gives each of these users its new number.
+// Replaces each of `users` by its new number.
 fn renumber(users: &mut Vec<u32>, numbers: &[u32])
     requires { All (λ user. user < length numbers.now) users.old.items }
     ensures { users.new.items ≡ map (λ user. slice_index numbers.now user) users.old.items }

@@ -1,4 +1,4 @@
-//! An order of the gates, and who uses each line.
+//! `Wiring`: an order of the gates, and for each line the gates that read it and the positions that show it.
 
 ghost use Rattle.std.specs.Prelude.{◌≡◌, ◌≢◌, ◌<◌, ◌^◌, ℕ, [], All, IfOk, length, slice_index, slice_index_or};
 ghost use Rattle.net_model.specs.Circuit.{FitsTogether, line_count};
@@ -31,14 +31,14 @@ impl Model for Wiring {
 }
 
 impl Wiring {
-    /// All gates, each after the gates that it reads.
+    /// Returns all gates, each after the gates that it reads.
     pub fn order(&self) -> &[u32]
         ensures { result.now ≡ self.now.order }
     {
         self.order.as_slice()
     }
 
-    /// The places in the order of the gates that read a line, one for each pin that reads it.
+    /// Returns the places in the order of the gates that read `line`, one for each pin that reads it.
     pub fn readers(&self, line: u32) -> &[u32]
         requires { line < length self.now.readers }
         ensures { result.now ≡ slice_index_or self.now.readers line [] }
@@ -46,7 +46,7 @@ impl Wiring {
         self.readers.at(line)
     }
 
-    /// The observed positions that show a line.
+    /// Returns the observed positions that show `line`.
     pub fn showing(&self, line: u32) -> &[u32]
         requires { line < length self.now.showing }
         ensures { result.now ≡ slice_index_or self.now.showing line [] }
@@ -55,7 +55,7 @@ impl Wiring {
     }
 }
 
-// The wiring of gates in this order, of which these are the readers of each line.
+// Returns the wiring of gates in `order`, given the readers of each line.
 pub(crate) fn wiring_of(
     alloc: Global,
     parts: &Parts,
@@ -77,7 +77,7 @@ pub(crate) fn wiring_of(
     })
 }
 
-// For each line the places in the order of the gates that read it, of which these are the readers.
+// Returns for each line the places in `order` of its `readers`.
 fn reader_places(
     alloc: Global,
     parts: &Parts,
@@ -98,7 +98,7 @@ fn reader_places(
     Lists::of_users(alloc, &readers)
 }
 
-// The place of each line that is in the order.
+// Returns a table of places by line: for each line in `order` its place there.
 fn places_of(alloc: Global, lines: u32, order: &[u32]) -> Result<Vec<u32>, AllocError>
     requires few { length order.now < 2 ^ 32 }
     requires inside { All (λ line. line < lines) order.now }
@@ -113,7 +113,7 @@ fn places_of(alloc: Global, lines: u32, order: &[u32]) -> Result<Vec<u32>, Alloc
     Ok(places)
 }
 
-// The observed positions that show each line.
+// Returns the observed positions that show each line.
 fn showing_of(alloc: Global, parts: &Parts) -> Result<Lists, AllocError>
     requires { FitsTogether (parts_circuit parts.now) }
     ensures users { IfOk result (λ places. AreUsers (length parts.now.positions.items) (shows_at (parts_circuit parts.now)) places) }

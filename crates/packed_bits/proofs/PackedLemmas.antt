@@ -6,19 +6,13 @@ use Rattle.std.proofs.lemmas.List.FromFn.{length-map-range_with_len, get_or-map-
 use Rattle.std.proofs.lemmas.Nat.{mod_below}
 use Rattle.net_model.specs.Rows.{bit_of, word_bit}
 use Rattle.net_model.proofs.RowLemmas.{HasBit, get_or-rows_of, rows_of-replicate}
-use Rattle.packed_bits.specs.Packed.{packed_bits, AreFirstWords}
+use Rattle.packed_bits.specs.Packed.{packed_bits}
 
 pub length-packed : (count : ℕ) (words : List ℕ) → length (packed_bits count words) ≡ count
 length-packed count words = length-map-range_with_len (word_bit words 0) 0 count
 
 pub packed_at : (count : ℕ) (words : List ℕ) (at : ℕ) → at < count → get_or (packed_bits count words) at false ≡ word_bit words 0 at
 packed_at count words at h = get_or-map-range_with_len (word_bit words 0) 0 count at at false h (omega arith)
-
--- all words
-pub packed_all : (bits : List Bool) (done : ℕ) (words : List ℕ) → AreFirstWords bits done words → length bits ≤ done * 64 → packed_bits (length bits) words ≡ bits
-packed_all bits done words are all =
-    ext_get_or false (packed_bits (length bits) words) bits (length-packed (length bits) words)
-    (λ at h. let low : at < length bits = omega (arith, h, length-packed (length bits) words) in packed_at (length bits) words at low ∙ are.bits_are at low (omega (arith, low, all)))
 
 -- words of zeros
 pub packed_zeros : (count n : ℕ) → packed_bits count (replicate n 0) ≡ replicate count false

@@ -1,8 +1,7 @@
-//! A list of bits in words.
+//! `PackedBits`: a list of bits in words of 64.
 
-ghost use Rattle.std.specs.Prelude.{◌≡◌, ◌+◌, ◌<◌, ◌≤◌, ℕ, false, length, replicate, slice_set, IfOk};
+ghost use Rattle.std.specs.Prelude.{◌≡◌, ◌<◌, ℕ, false, length, replicate, slice_set, IfOk};
 ghost use Rattle.net_model.specs.Answer.{bit_at};
-ghost use Rattle.net_model.specs.Rows.{bit_of};
 
 use net_model::{Bits, with_bit};
 use std::alloc::{AllocError, Global};
@@ -27,7 +26,7 @@ impl Model for PackedBits {
 }
 
 impl PackedBits {
-    /// This many bits, all 0.
+    /// Returns `len` bits, all 0.
     pub fn zeros(alloc: Global, len: usize) -> Result<PackedBits, AllocError>
         ensures { IfOk result (λ packed. packed ≡ replicate len false) }
     {
@@ -37,20 +36,7 @@ impl PackedBits {
         })
     }
 
-    /// The same bits, packed.
-    pub fn pack(alloc: Global, bits: &Bits) -> Result<PackedBits, AllocError>
-        ensures { IfOk result (λ packed. packed ≡ bits.now) }
-    {
-        let len = bits.len();
-        let count = len.div_ceil(64);
-        let mut words = Vec::with_capacity(alloc, count)?;
-        for word in 0..count {
-            words.push(word_from(bits, word * 64))?;
-        }
-        Ok(PackedBits { words, len })
-    }
-
-    /// The same bits, each in a place of its own.
+    /// Returns the same bits, unpacked.
     pub fn unpack(&self, alloc: Global) -> Result<Bits, AllocError>
         ensures { IfOk result (λ bits. bits ≡ self.now) }
     {
@@ -62,7 +48,7 @@ impl PackedBits {
         Ok(bits)
     }
 
-    /// How many bits there are.
+    /// Returns the number of bits.
     #[inline]
     pub fn len(&self) -> usize
         ensures { result ≡ length self.now }
@@ -70,7 +56,7 @@ impl PackedBits {
         self.len
     }
 
-    /// The bit at a place, which is below `len`.
+    /// Returns the bit at a place, which is below `len`.
     #[inline]
     pub fn get(&self, at: usize) -> bool
         requires { at < length self.now }
@@ -89,7 +75,7 @@ impl PackedBits {
         self.words[word] = with_bit(self.words[word], at % 64, bit);
     }
 
-    /// The same bits again.
+    /// Returns a copy of the bits.
     pub fn copy(&self) -> Result<PackedBits, AllocError>
         ensures { IfOk result (λ packed. packed ≡ self.now) }
     {
@@ -98,17 +84,4 @@ impl PackedBits {
             len: self.len,
         })
     }
-}
-
-// The bits from a place on, as many as a word has.
-fn word_from(bits: &Bits, first: usize) -> u64
-    requires { first ≤ length bits.now }
-    ensures { (k : ℕ) → k < 64 → first + k < length bits.now → bit_of result k ≡ bit_at bits.now (first + k) }
-{
-    let count = (bits.len() - first).min(64);
-    let mut word = 0;
-    for at in 0..count {
-        word = with_bit(word, at, bits.get(first + at));
-    }
-    word
 }

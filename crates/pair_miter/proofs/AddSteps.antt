@@ -1,4 +1,4 @@
--- Clauses written one after the other.
+-- Clauses written one after another.
 use Rattle.std.proofs.Common.{◌≡◌, refl, sym, ap, ◌∙◌, subst}
 use Rattle.std.specs.Prelude.{Result, Ok, Err, IsErr, OnOk, List, [], ◌∷◌, ◌++◌}
 use Rattle.std.proofs.lemmas.List.{append-nil, append_assoc}
@@ -21,7 +21,7 @@ on_ok (Err e) p = tt
 pub adds_none : (pool : Clauses) → Adds pool pool []
 adds_none pool = record { written = sym (append-nil pool.clauses); places = room_same pool (pool.clauses ++ []) }
 
--- what stands after the first clauses needs room behind them
+-- `ys` after the clauses of `b` are `xs` and `ys` after the clauses of `a`
 behind : (a b : Clauses) (xs ys : List Clause) → b.clauses ≡ a.clauses ++ xs → b.clauses ++ ys ≡ a.clauses ++ (xs ++ ys)
 behind a b xs ys written = ap (λ cs. cs ++ ys) written ∙ append_assoc a.clauses xs ys
 
@@ -37,14 +37,14 @@ adds_both a b c xs ys first second = record {
   places = rooms_both a b c xs ys first second.places;
 }
 
--- what is added to is kept
+-- a call that adds clauses keeps the old ones
 pub adds_keeps : (old new : Clauses) (clauses : List Clause) → Adds old new clauses → KeepsClauses old new clauses
 adds_keeps old new clauses adds = record { begins = record { more = clauses; are = adds.written }; places = adds.places }
 
 pub keeps_all : (pool : Clauses) (clauses : List Clause) → KeepsClauses pool pool clauses
 keeps_all pool clauses = record { begins = record { more = []; are = sym (append-nil pool.clauses) }; places = room_same pool (pool.clauses ++ clauses) }
 
--- where the first clauses are written and the others fail, or the first fail already
+-- if the first clauses are written and the others fail, the old ones are kept
 pub keeps_both : (a b c : Clauses) (xs ys : List Clause) → Adds a b xs → KeepsClauses b c ys → KeepsClauses a c (xs ++ ys)
 keeps_both a b c xs ys first second = record {
   begins = begins_through c.clauses b.clauses a.clauses second.begins (record { more = xs; are = first.written });
@@ -64,7 +64,7 @@ pub record InTwo (rows first left : List Clause) : Type 0 where
 pub beside : (first left : List Clause) → InTwo (first ++ left) first left
 beside first left = record { are = refl }
 
--- tidied clauses come in two, and their numbers add up
+-- clauses in two parts are tidied part by part
 tidied : {rows first left : List Clause} → InTwo rows first left → tidy rows ≡ tidy first ++ tidy left
 tidied {first = first} {left = left} two = ap tidy two.are ∙ tidy-append first left
 
@@ -94,7 +94,7 @@ next_fails {before = before} {next = next} has adds keeps = first_fails has.are 
 
 -- ---- what is left, step by step
 
--- Some of the clauses stand tidied after the old ones, and these are left.
+-- Some of the clauses are written, tidied, after the old ones, and these are left.
 pub record Remains (old now : Clauses) (all left : List Clause) : Type 0 where
   pub done : List Clause
   pub parted : InTwo all done left
@@ -110,7 +110,7 @@ remains_less {first = first} {left = left} r two adds = record {
   adds = both_parts (beside r.done first) r.adds adds;
 }
 
--- what fails in what is left fails in all
+-- if what is left fails, all fail
 pub remains_fails : {old now new : Clauses} {all rows first left : List Clause} → Remains old now all rows → InTwo rows first left → KeepsClauses now new (tidy first) → KeepsClauses old new (tidy all)
 remains_fails r two keeps = left_fails r.parted r.adds (first_fails two keeps)
 

@@ -26,7 +26,7 @@ AlikeEnds (Some c) (Some d) = SameLiterals c d
 AlikeEnds None (Some d) = ⊥
 AlikeEnds (Some c) None = ⊥
 
--- what is known of the one, where the other is known
+-- if one end is a clause, the other is a clause with the same literals
 pub alike_some : (o p : Option Clause) (d : Clause) → AlikeEnds o p → p ≡ Some d → (c : Clause) × (o ≡ Some c) × SameLiterals c d
 alike_some o p d are e = by o (subst (AlikeEnds o) e are)
   where

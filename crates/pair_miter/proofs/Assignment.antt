@@ -1,5 +1,5 @@
--- The assignment that stands for two valuations: the bits of the relevant lines in each copy, the parts of each
--- exclusive or, and the differences at the reached positions.
+-- The assignment for two valuations: the bits of the relevant lines in each copy, the partial results of each exclusive
+-- or, and the differences at the reached positions.
 use Rattle.std.proofs.Common.{◌≡◌, ◌∙◌, ℕ, ◌+◌, ◌-◌, ◌<◌, refl, sym, ap, arith, append-nil, subst}
 use Rattle.std.specs.Prelude.{Bool, true, false, List, [], ◌∷◌, ◌++◌, map, flat_map, length, Option, None, Some, Contains, is_none, ◌&&◌, count_by, if◌then◌else◌}
 use Rattle.std.specs.Option.{option_map_or}

@@ -5,7 +5,7 @@ use Rattle.std.proofs.lemmas.Bool.Decides.{nat_tests}
 use Rattle.std.proofs.lemmas.List.Sums.{sum_by-cons}
 use Rattle.net_model.specs.Gate.{odd_ones, inverted}
 
--- whether the first bit is the second
+-- whether the two bits are equal
 abbrev pub holds : Bool → Bool → Bool
 holds y b = if y then b else not b
 
@@ -52,7 +52,7 @@ inverted_on p v o e = sym (inverted_back p o v (sym e))
 next_odd : (n : ℕ) → ((1 + n) % 2 == 1) ≡ not (n % 2 == 1)
 next_odd n = grind (arith, nat_tests)
 
--- one more element, of which a test says whether it counts
+-- one more element, which counts if it passes the test
 pub odd_count-cons : {A : Type 0} (test : A → Bool) (x : A) (xs : List A) → (count_by test (x ∷ xs) % 2 == 1) ≡ inverted (test x) (count_by test xs % 2 == 1)
 odd_count-cons {A = A} test x xs = ap (λ n. n % 2 == 1) (sum_by-cons (λ (y : A). if test y then 1 else 0) x xs) ∙ by (test x)
   where

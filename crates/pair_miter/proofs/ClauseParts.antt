@@ -56,7 +56,7 @@ module _ (test : ℕ → Bool) where
                 ∙ ap passing_below (sym (ap (λ i. get_or (passing_below n ++ n ∷ []) i d) here ∙ get_or-append_seam (passing_below n) n [] d)))
           ])
 
-  -- a sum over the numbers that pass is one over all, where those that fail add nothing
+  -- a sum over the numbers that pass is the sum over all, if those that fail add nothing
   pub sum_of_passing : (h : ℕ → ℕ) → ((x : ℕ) → test x ≡ false → h x ≡ 0) → (xs : List ℕ) → sum_by h (filter test xs) ≡ sum_by h xs
   sum_of_passing h none [] = refl
   sum_of_passing h none (x ∷ xs) = by (test x) refl (sum_of_passing h none xs)
@@ -78,7 +78,7 @@ module _ (xs : List ℕ) (i : ℕ) (inside : i < length xs) where
         ∙ (flat_map-append clauses (take i xs) (get_or xs i 0 ∷ [])
         ∙ ap (λ ys. flat_map clauses (take i xs) ++ ys) (append-nil (clauses (get_or xs i 0))))
 
-    -- with the clauses of the others behind them they are the whole
+    -- with the clauses of the others after them they are all clauses
     pub clauses_rest : flat_map clauses xs ≡ (flat_map clauses (take i xs) ++ clauses (get_or xs i 0)) ++ flat_map clauses (drop (i + 1) xs)
     clauses_rest =
         ap (flat_map clauses) (sym (take-append-drop (i + 1) xs))

@@ -24,7 +24,7 @@ module _ (bits : List Bool) where
   model_all clauses [] h = refl
   model_all clauses (x ∷ xs) h = model_both (clauses x) (flat_map clauses xs) (h x (0, omega arith, refl)) (model_all clauses xs (λ y m. h y (later x xs y m)))
 
--- a test of what comes of elements
+-- a test of mapped elements
 pub any_mapped : {A B : Type 0} (test : B → Bool) (h : A → B) (xs : List A) → list_any test (map h xs) ≡ list_any (λ x. test (h x)) xs
 any_mapped test h [] = refl
 any_mapped test h (x ∷ xs) = ap (λ b. test (h x) || b) (any_mapped test h xs)

@@ -1,4 +1,4 @@
--- Where a vector separates, the miter has a model: the one that stands for the two valuations.
+-- If a vector separates, the miter has a model: the assignment for the two valuations.
 use Rattle.std.proofs.Common.{◌≡◌, ◌≢◌, ◌∙◌, ℕ, suc, ◌-◌, ◌<◌, refl, sym, ap, arith, subst, get_or}
 use Rattle.std.specs.Prelude.{Bool, true, false, List, [], ◌∷◌, map, flat_map, length, None, Some, Contains, unwrap_or, is_none, if◌then◌else◌}
 use Rattle.std.specs.Option.{option_map_or}

@@ -1,5 +1,5 @@
--- The clauses of a line in a copy hold exactly where the line's variable carries the line's bit in the valuation of
--- that copy, given that the variables of the lines that it reads do.
+-- The clauses of a line in a copy hold exactly if the line's variable carries the line's bit in the valuation of that
+-- copy, given that the variables of the lines that it reads do.
 use Rattle.std.proofs.Common.{◌≡◌, ◌∙◌, ℕ, suc, ◌+◌, ◌<◌, refl, sym, ap}
 use Rattle.std.specs.Prelude.{Bool, true, false, not, List, [], ◌∷◌, map, length, Option, None, Some, Contains, ◌||◌, ◌&&◌, unwrap_or}
 use Rattle.std.specs.Option.{option_map_or}
@@ -81,7 +81,7 @@ module _ (c : Circuit) (f g : Fault) (bits : List Bool) (copy : Side) where
         gate_rows-complete bits gate.kind (line_variable c f g copy line) (first_helper c f g copy line) (gate_operands c f g copy line gate) (helpers gate refl refl)
         (sym e ∙ ap (gate_value gate.kind) (sym (operands_carry gate lines)))
 
-    -- where the clauses hold, the variable carries the line's bit
+    -- if the clauses hold, the variable carries the line's bit
     pub copy_sound : Agrees c (fault_of c f g copy) v z → line < line_count c → is_model bits (copy_clauses c f g copy line) ≡ true
         → ((read : ℕ) → Feeds c read line → bit_at z read ≡ copy_bit c f g bits copy read)
         → (gate_at c line ≡ None → stuck_stem (fault_of c f g copy) line ≡ None → bit_at v line ≡ copy_bit c f g bits copy line)
@@ -89,7 +89,7 @@ module _ (c : Circuit) (f g : Fault) (bits : List Bool) (copy : Side) where
     unfolding copy_clauses line_bit driven_bit line_is clauses_of_stem reads
     copy_sound a h e lines source = a.each line h ∙ sound_by (stuck_stem (fault_of c f g copy) line) (gate_at c line) refl e lines source
 
-    -- where the variables carry the bits, the clauses hold
+    -- if the variables carry the bits, the clauses hold
     pub copy_complete : Agrees c (fault_of c f g copy) v z → line < line_count c → bit_at z line ≡ copy_bit c f g bits copy line
         → ((read : ℕ) → Feeds c read line → bit_at z read ≡ copy_bit c f g bits copy read)
         → ((driver : Gate) → gate_at c line ≡ Some driver → stuck_stem (fault_of c f g copy) line ≡ None → is_parity driver.kind ≡ true → Carry bits (first_helper c f g copy line) (helper_bits (variable_bits bits (variables (gate_operands c f g copy line driver)))))

@@ -21,7 +21,7 @@ module _ (variable : ℕ) (cs : List Clause) (all : All (HasVariablesUpTo variab
       All-append within (clause_without pivot a) (clause_without (opposite pivot) c)
       (All-filter (λ m. not (same_literal pivot m)) within a x) (All-filter (λ m. not (same_literal (opposite pivot) m)) within c y)
 
-  -- where there is a clause, its variables are within
+  -- if there is a clause, its variables are within
   abbrev IsWithin : Option Clause → Type 0
   IsWithin o = (c : Clause) → o ≡ Some c → HasVariablesUpTo variable c
 

@@ -1,5 +1,5 @@
--- The rows of a gate hold exactly where the output has the gate's value on what the operands carry. Only an exclusive
--- or of three variables or more asks more of an assignment: that the helpers carry the parts before.
+-- The rows of a gate hold exactly if the output has the gate's value of what the operands carry. Only an exclusive or
+-- of three or more variables asks more of an assignment: that the helpers carry the partial results.
 use Rattle.std.proofs.Common.{◌≡◌, refl, sym, ap, ◌∙◌, subst, ℕ, zero, suc, ◌+◌, ◌-◌, ◌<◌, arith}
 use Rattle.std.specs.Prelude.{Bool, true, false, not, List, [], ◌∷◌, ◌++◌, length, map, slice_index_or, ◌||◌, ◌&&◌, if◌then◌else◌}
 use Rattle.std.specs.Bool.{beq}
@@ -30,7 +30,7 @@ operand_value bits (variable x) = bit_at bits (x - 1)
 
 -- ---- helpers
 
--- the parts of an exclusive or before the last, from a bit on
+-- the partial results of an exclusive or except the last, starting with a bit
 abbrev pub parts : Bool → List Bool → List Bool
 parts b [] = []
 parts b (v ∷ []) = []
@@ -51,7 +51,7 @@ length-helper_bits (v ∷ []) = refl
 length-helper_bits (v ∷ v' ∷ vs) = length-parts v v' vs ∙ (let e : length vs ≡ length (v ∷ v' ∷ vs) - 2 = omega arith in e)
 
 module _ (bits : List Bool) where
-  -- the variables from this one on carry these bits
+  -- the variables starting at this one carry these bits
   abbrev pub Carry : ℕ → List Bool → Type 0
   Carry helper carried = (k : ℕ) → k < length carried → bit_at bits (helper + k - 1) ≡ bit_at carried k
 
@@ -137,7 +137,7 @@ module _ (bits : List Bool) where
       by true = unit_true l
       by false = decided_of-holds decides l (variables operands)
 
-  -- all are 1 where none is 0
+  -- all are 1 exactly if none is 0
   none_is_zero : (vs : List Bool) → not (is_decided false vs) ≡ all_ones vs
   unfolding is_decided
   none_is_zero [] = refl

@@ -1,4 +1,4 @@
--- The ends of a log's chains, with one more chain before or behind.
+-- The ends of a log's chains, with one more chain before or after.
 use Rattle.std.proofs.Common.{◌≡◌, ◌∙◌, ℕ, zero, suc, List, [], ◌∷◌, ◌++◌, length, take, refl, sym, ap}
 use Rattle.std.specs.Prelude.{Option, Some, None, slice_get}
 use Rattle.std.specs.Option.{option_and_then, option_map}

@@ -53,7 +53,7 @@ marks_more marks xs m are room l = by (same_literal l m) refl
 abbrev pub AreWithin : List Bool → Clause → Type 0
 AreWithin marks clause = (l : Literal) → bit_at marks (code_of l) ≡ true → has_literal clause l ≡ true
 
--- of a clause whose first literal's mark is taken away, the others are left
+-- if the mark of a clause's first literal is removed, those of the others are left
 pub within_less : (marks : List Bool) (m : Literal) (rest : Clause) → AreWithin marks (m ∷ rest) → code_of m < length marks → AreWithin (set marks (code_of m) false) rest
 within_less marks m rest within room l marked = by (same_literal l m) refl
   where
@@ -61,7 +61,7 @@ within_less marks m rest within room l marked = by (same_literal l m) refl
     by true e = absurd (true≢false (sym marked ∙ (ap (bit_at (set marks (code_of m) false)) (same_code_of l m e) ∙ get_or-set_same marks (code_of m) false false room)))
     by false e = ap (λ b. b || has_literal rest l) (sym e) ∙ within l (sym (get_or-set_other marks (code_of m) (code_of l) false false (other_code l m e)) ∙ marked)
 
--- where none is left, no literal is marked
+-- if no literal is left, none is marked
 pub within_none : (marks : List Bool) → AreWithin marks [] → AreMarksOfClause marks []
 within_none marks within l = by (bit_at marks (code_of l)) refl
   where
@@ -69,7 +69,7 @@ within_none marks within l = by (bit_at marks (code_of l)) refl
     by true e = absurd (true≢false (sym (within l e)))
     by false e = e
 
--- ---- a literal is kept where it isn't marked
+-- ---- a literal is kept if it isn't marked
 
 module _ (marks : List Bool) (kept xs : Clause) (m : Literal) (are : AreMarksOfClause marks xs) (so_far : kept ≡ without_repeats xs) where
   pub keeps_new : bit_at marks (code_of m) ≡ false → kept ++ m ∷ [] ≡ without_repeats (xs ++ m ∷ [])
@@ -80,7 +80,7 @@ module _ (marks : List Bool) (kept xs : Clause) (m : Literal) (are : AreMarksOfC
   pub keeps_old : bit_at marks (code_of m) ≡ true → kept ≡ without_repeats (xs ++ m ∷ [])
   keeps_old marked = so_far ∙ (ap (λ b. kept_with b (without_repeats xs) m) (sym marked ∙ are m) ∙ sym (without_repeats-push xs m))
 
--- a literal's mark has a place where both of its variable have one
+-- a literal's mark has a place if both literals of its variable have one
 pub code_within : (l : Literal) (n : ℕ) → 2 * l.variable + 1 < n → code_of l < n
 code_within l n h = by l.positive
   where

@@ -26,7 +26,7 @@ module _ (c : Circuit) (f g : Fault) where
     are = record { are = ap (flat_map (line_clauses c f g)) (sym are) ∙ clauses_rest lines i inside (line_clauses c f g) };
   }
 
-  -- the same of the reached positions and their differences
+  -- the clauses of the differences of the reached positions before one, its own, and the rest
   pub part_of_differences : (positions : List ℕ) → positions ≡ reached_positions c f g → (i : ℕ) → i < length positions
       → HasNext (differences_part c f g) (flat_map (difference_clauses c f g) (take i positions)) (difference_clauses c f g (get_or positions i 0))
   part_of_differences positions are i inside =

@@ -1,4 +1,4 @@
--- The first variables of the relevant lines, listed, one line more at a time.
+-- The first variables of the relevant lines, one more line at a time.
 use Rattle.std.proofs.Common.{◌≡◌, ◌∙◌, inl, inr, ℕ, ◌+◌, ◌<◌, ◌≤◌, List, length, get_or, set, take, sym, ap, subst, arith}
 use Rattle.std.specs.Prelude.{sum_by}
 use Rattle.std.proofs.lemmas.Bool.{cases_eq, cases_lt}
@@ -13,7 +13,7 @@ use Rattle.pair_miter.specs.Variables.{line_variables, line_variable, variables_
 use Rattle.pair_miter.proofs.ClauseParts.{sum_taken}
 use Rattle.pair_miter.proofs.Numbers.{line_listed, place_of_line, variable_at, variables_of_lines}
 
--- The first so many of some lines have their first variables, and the end is the next one.
+-- The first `i` of the lines have their first variables, and `next` is the next variable.
 pub record AreNumbered (c : Circuit) (f g : Fault) (lines : List ℕ) (i next : ℕ) (firsts : List ℕ) : Type 0 where
   pub whole : length firsts ≡ line_count c
   pub end : next ≡ 1 + sum_by (line_variables c f g) (take i lines)

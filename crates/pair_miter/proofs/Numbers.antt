@@ -84,7 +84,7 @@ module _ (c : Circuit) (f g : Fault) where
   unfolding line_variable
   line_variable-from copy line = omega arith
 
-  -- no more variables are lines' than there are
+  -- the lines have no more variables than there are
   pub few_of_lines : variables_below c f g (line_count c) ≤ variable_count c f g
   unfolding variable_count
   few_of_lines = omega arith
@@ -107,7 +107,7 @@ module _ (c : Circuit) (f g : Fault) where
   unfolding line_variables
   variables_of_irrelevant line e = rw e refl
 
-  -- a relevant line has two variables where it is split, and else one
+  -- a relevant line has two variables if it is split, and else one
   pub variables_of_relevant : (line : ℕ) (s : Bool) → is_relevant c f g line ≡ true → is_split c f g line ≡ s → line_variables c f g line ≡ (if s then 2 else 1)
   unfolding line_variables
   variables_of_relevant line s e is = rw e (ap (λ b. if b then 2 else 1) is)
@@ -174,7 +174,7 @@ module _ (c : Circuit) (f g : Fault) where
   unfolding variable_count
   few_of_parts = omega arith
 
-  -- the variable of a relevant line is one
+  -- the variable of a relevant line is one of the miter
   pub variable_within : (copy : Side) (line x n : ℕ) → x ≡ line_variable c f g copy line → n ≡ variable_count c f g → line < line_count c → is_relevant c f g line ≡ true → IsVariable n x
   variable_within copy line x n is all h e = (
     omega (arith, is, line_variable-from copy line),

@@ -1,4 +1,4 @@
--- Operands: their variables, and the variables from an operand on.
+-- Operands: their variables, and the variables starting at an operand.
 use Rattle.std.proofs.Common.{◌≡◌, ℕ, ◌+◌, ◌*◌, ◌<◌, ◌≤◌, ◌++◌, refl, ap, ◌∙◌, sym, subst, arith, length, get_or, drop}
 use Rattle.std.specs.Prelude.{Bool, Option, None, Some, IfSome, List, [], ◌∷◌, All, map}
 use Rattle.std.specs.List.{cons_option}
@@ -11,7 +11,7 @@ use Rattle.pair_miter.specs.Operand.{Operand, constant, variable, variable_of}
 use Rattle.pair_miter.specs.Marks.{IsOperand, HavePlaces}
 use Rattle.pair_miter.specs.Rows.{variables, operand_literals, signed_literal, with_all}
 
--- operands are within where their variables are
+-- the variables of operands that are within are within
 pub variables_within : (n : ℕ) (operands : List Operand) → All (IsOperand n) operands → All (IsVariable n) (variables operands)
 variables_within n [] h = All-nil (IsVariable n)
 variables_within n (constant b ∷ operands) h = variables_within n operands (All-tail (IsOperand n) (constant b) operands h)
@@ -46,7 +46,7 @@ option_weaker n m (Some x) le h = (h.0, omega (arith, h.1, le))
 pub operand_weaker : (n m : ℕ) (operand : Operand) → n ≤ m → IsOperand n operand → IsOperand m operand
 operand_weaker n m operand le h = option_weaker n m (variable_of operand) le h
 
--- ---- the variables from an operand on
+-- ---- the variables starting at an operand
 
 literal_and : (positive : Bool) (o : Option ℕ) (xs : List ℕ) → option_map_or (λ x. signed_literal positive x ∷ []) o [] ++ map (signed_literal positive) xs ≡ map (signed_literal positive) (cons_option o xs)
 literal_and positive None xs = refl

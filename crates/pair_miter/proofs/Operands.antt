@@ -1,5 +1,5 @@
--- What the pins of a relevant line's gate give: constants and variables that there are, of which the variables are as
--- many as pins that aren't stuck.
+-- What the pins of a relevant line's gate give: constants and variables of the miter, with as many variables as there
+-- are pins that aren't stuck.
 use Rattle.std.proofs.Common.{◌≡◌, ◌∙◌, ℕ, zero, suc, ◌+◌, ◌-◌, ◌<◌, ◌≤◌, Bool, true, false, List, [], ◌∷◌, ◌++◌, length, take, get_or, refl, sym, ap, arith, subst}
 use Rattle.std.specs.Prelude.{All, Contains, Option, None, Some, map, count_by, is_none, if◌then◌else◌}
 use Rattle.std.specs.List.{enumerate_from, filter_map}

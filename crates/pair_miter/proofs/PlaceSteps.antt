@@ -7,7 +7,7 @@ use Rattle.clause_pool.specs.Clauses.{BeginsWith, Clause, Clauses, literal_count
 use Rattle.clause_pool.proofs.Numbered.{begins_itself, begins_through}
 use Rattle.pair_miter.specs.Adds.{KeepsPlaces, GrowsFor, Grows}
 
--- No more clauses and literals than the other clauses have.
+-- The first list has no more clauses and no more literals than the other.
 pub record AreFewer (clauses others : List Clause) : Type 0 where
   pub fewer : length clauses ≤ length others
   pub shorter : literal_count clauses ≤ literal_count others
@@ -30,7 +30,7 @@ room_same pool clauses = record {
   literals_needed = omega arith;
 }
 
--- what grew for fewer clauses, and then for these
+-- a pool that grew for fewer clauses and then for these grew for these
 pub room_through : (a b c : Clauses) (xs ys : List Clause) → AreFewer xs ys → GrowsFor a b xs → GrowsFor b c ys → GrowsFor a c ys
 room_through a b c xs ys less first second = record {
   kept = kept_through a b c first.kept second.kept;

@@ -1,4 +1,4 @@
--- Where the bits of a number stand in a list that has some bits for each number of a range.
+-- Where the bits of a number are in a list that has some bits for each number of a range.
 use Rattle.std.proofs.Common.{◌≡◌, ◌∙◌, ℕ, zero, suc, ◌+◌, ◌-◌, ◌<◌, refl, sym, ap, arith, get_or, append_assoc}
 use Rattle.std.specs.Prelude.{Bool, false, List, ◌++◌, flat_map, length, sum_by}
 use Rattle.std.specs.List.{range_with_len}
@@ -15,7 +15,7 @@ module _ (bits_of : ℕ → List Bool) (count : ℕ → ℕ) (counts : (n : ℕ)
       let more = length-flat (first + 1) many in
       omega (arith, parts, sum, more, counts first)
 
-  -- the bits of a number stand behind those of all lower ones
+  -- the bits of a number come after those of all lower ones
   pub bits_at : (first many i k : ℕ) (rest : List Bool) → i < many → k < length (bits_of (first + i))
       → get_or (flat_map bits_of (range_with_len first many) ++ rest) (sum_by count (range_with_len first i) + k) false ≡ get_or (bits_of (first + i)) k false
   bits_at first zero i k rest h below = absurd (omega arith)

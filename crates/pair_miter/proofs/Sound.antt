@@ -32,7 +32,7 @@ use Rattle.pair_miter.proofs.Sources.{reached_source}
 use Rattle.pair_miter.proofs.GateRows.{gate_rows-sound}
 use Rattle.pair_miter.proofs.CopyClauses.{operand_carries, copy_sound}
 
--- the two copies of a line that isn't split are one
+-- the two copies of a line that isn't split have one variable
 pub one_variable : (c : Circuit) (f g : Fault) (line : ℕ) → is_split c f g line ≡ false → line_variable c f g First line ≡ line_variable c f g Second line
 unfolding line_variable
 one_variable c f g line e = ap (λ b. 1 + variables_below c f g line + (if b then 1 else 0)) (sym e)

@@ -16,7 +16,7 @@ use Rattle.net_model.proofs.Orders.{range-within}
 use Rattle.pair_miter.specs.Miter.{source_bit, vector_of}
 use Rattle.pair_miter.proofs.Numbers.{line_listed, lines_before, place_of_line}
 
--- The first so many of some lines have their bits, and all other bits are 0.
+-- The first `i` of the lines have their bits, and all other bits are 0.
 pub record AreSourceBits (c : Circuit) (f g : Fault) (bits : List Bool) (lines : List ℕ) (i : ℕ) (v : List Bool) : Type 0 where
   pub inside : i ≤ length lines
   pub whole : length v ≡ c.sources
@@ -64,7 +64,7 @@ module _ (c : Circuit) (f g : Fault) (bits : List Bool) where
         let kept = Contains-from_filter (is_relevant c f g) (range_with_len 0 line) (get_or lines i 0) (subst (λ xs. Contains xs (get_or lines i 0)) (lines_before c f g lines are k inside) there) in
         omega (arith, (range-within 0 line (get_or lines i 0) kept.0).1)
 
-    -- where the next line is no source, all bits are there
+    -- if the next line is no source, all bits are there
     pub all_bits : (i : ℕ) (v : List Bool) → (i < length lines → c.sources ≤ get_or lines i 0) → AreSourceBits c f g bits lines i v → v ≡ vector_of c f g bits
     unfolding vector_of
     all_bits i v last so_far =

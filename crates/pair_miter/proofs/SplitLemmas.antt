@@ -20,7 +20,7 @@ use Rattle.pair_scope.specs.PairScope.{AreSplitInOrder}
 use Rattle.pair_miter.specs.SplitLines.{AreVariables, AreSplitLines, is_double, copies_of, all_copies}
 use Rattle.pair_miter.proofs.Numbers.{variable_within}
 
--- a test of what passes another that it needs
+-- filtering by a test and then by a stricter one is filtering by the stricter one
 filter_again : (p q : ℕ → Bool) → ((x : ℕ) → q x ≡ false → p x ≡ false) → (xs : List ℕ) → filter p (filter q xs) ≡ filter p xs
 filter_again p q none [] = refl
 filter_again p q none (x ∷ xs) = by (q x) refl (filter_again p q none xs)
@@ -100,7 +100,7 @@ module _ (c : Circuit) (f g : Fault) where
       ap (λ xs. map (copies_of c f g) (filter (is_double c f g) xs)) split.are
       ∙ ap (map (copies_of c f g)) (filter_again (is_double c f g) (is_split c f g) (λ line e. neither (is_relevant c f g line) (is_split c f g line) e) (range_with_len 0 c.sources ++ split.order))
 
-  -- what is listed is a split line
+  -- each listed line is a split line of the circuit
   pub split_listed : IsCircuit c → (lines : List ℕ) → AreSplitInOrder c f g lines → (i : ℕ) → i < length lines → (get_or lines i 0 < line_count c) × (is_split c f g (get_or lines i 0) ≡ true)
   split_listed w lines split i inside =
       let line = get_or lines i 0 in

@@ -71,7 +71,7 @@ tautology_true bits clause e =
     let is : opposite found.0 ≡ other.0 = same_is (opposite found.0) other.0 other.2 in
     either_true bits clause found.0 found.1 (subst (Contains clause) (sym is) other.1) (literal_bit bits found.0) refl
 
--- An assignment satisfies a list of clauses exactly where it satisfies them once they are tidied.
+-- An assignment satisfies a list of clauses exactly if it satisfies them tidied.
 left_out_or_not : (bits : List Bool) (clause : Clause) (tidied clauses : List Clause) → is_model bits (map without_repeats tidied) ≡ is_model bits clauses → (b : Bool) → is_tautology clause ≡ b
     → is_model bits (map without_repeats (cond (not b) (clause ∷ tidied) tidied)) ≡ (is_satisfied_by bits clause && is_model bits clauses)
 left_out_or_not bits clause tidied clauses h true e = rw (tautology_true bits clause e) h

@@ -239,7 +239,7 @@ module _ (c : Circuit) (f g : Fault) (w : IsCircuit c) where
       let is = reached k d h in
       difference_within c f g at (difference_variable c f g at) (variable_count c f g) refl refl is.0 is.1))))
 
--- tidying keeps what is true of all literals
+-- a clause without repeats is within if the clause is
 once_within : (n : ℕ) (clause : Clause) → HasVariablesUpTo n clause → HasVariablesUpTo n (without_repeats clause)
 once_within n [] h = h
 once_within n (l ∷ ls) h =
@@ -254,7 +254,7 @@ opposite_or_not l m e other = elim (same_or_opposite l m e) [
   | inr turned ↦ ap opposite turned.0 ∙ opposite_opposite m
 ]
 
--- a literal of a clause without opposite literals has another variable than all of the clause that aren't it
+-- in a clause without opposite literals the first literal has another variable than each literal that differs from it
 first_apart : (l : Literal) (ls : Clause) → is_tautology (l ∷ ls) ≡ false → All (λ (m : Literal). l.variable ≢ m.variable) (filter (λ m. not (same_literal l m)) (without_repeats ls))
 first_apart l ls none k d h e =
     let kept = filter (λ m. not (same_literal l m)) (without_repeats ls) in

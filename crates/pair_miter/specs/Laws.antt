@@ -11,11 +11,11 @@ use Rattle.pair_miter.specs.Variables.{variable_count}
 use Rattle.pair_miter.specs.Miter.{tidy, miter, is_model, vector_of}
 use Rattle.pair_miter.specs.Fresh.{IsFresh}
 
--- an assignment satisfies clauses exactly where it satisfies them tidied
+-- An assignment satisfies clauses exactly if it satisfies them tidied.
 abbrev pub TidyKeepsModels : Type 0
 TidyKeepsModels = (bits : List Bool) (clauses : List Clause) → is_model bits (tidy clauses) ≡ is_model bits clauses
 
--- a clause that has all literals of a clause of the list isn't fresh over the list
+-- A clause that has all literals of a clause of the list isn't fresh over the list.
 abbrev pub SupersetIsNotFresh : Type 0
 SupersetIsNotFresh = (clauses : List Clause) (clause smaller : Clause) (at : Literal) → Contains clauses smaller
     → ((l : Literal) → Contains smaller l → Contains clause l) → ¬ IsFresh clauses clause at
@@ -26,19 +26,19 @@ pub record HasModel (c : Circuit) (f g : Fault) : Type 0 where
   pub whole : length bits ≡ variable_count c f g
   pub satisfies : is_model bits (miter c f g) ≡ true
 
--- the vector of a model separates the faults
+-- The vector of a model separates the faults.
 abbrev pub ModelSeparates : Type 0
 ModelSeparates = (c : Circuit) (f g : Fault) (bits : List Bool) → IsCircuit c → IsFaultOf c f → IsFaultOf c g
     → is_model bits (miter c f g) ≡ true → Separates c (vector_of c f g bits) f g
 
--- where a vector separates the faults, the miter has a model
+-- If a vector separates the faults, the miter has a model.
 abbrev pub SeparatedHasModel : Type 0
 SeparatedHasModel = (c : Circuit) (f g : Fault) (v : List Bool) → IsCircuit c → Separates c v f g → HasModel c f g
 
--- the miter has fewer clauses and variables than there are numbers for
+-- A miter has fewer than 2^30 clauses and fewer than 2^31 variables.
 abbrev pub MiterIsSmall : Type 0
 MiterIsSmall = (c : Circuit) (f g : Fault) → IsCircuit c → (length (miter c f g) < 2 ^ 30) × (variable_count c f g < 2 ^ 31)
 
--- each clause of a miter is over its variables, and has none of them twice
+-- Each clause of a miter is over its variables, and has none of them twice.
 abbrev pub MiterIsProper : Type 0
 MiterIsProper = (c : Circuit) (f g : Fault) → IsCircuit c → All (IsProper (variable_count c f g)) (miter c f g)

@@ -1,4 +1,4 @@
--- What the fields of a miter show, and what is true of them.
+-- What the fields of a miter mean, and what holds of them.
 use Rattle.std.specs.Prelude.{◌≡◌, length}
 use Rattle.net_model.specs.Circuit.{IsCircuit}
 use Rattle.net_model.specs.Fault.{IsFaultOf}
@@ -10,7 +10,7 @@ use Rattle.pair_miter.specs.MiterView.{Miter}
 abbrev pub miter_of : Inside → Miter
 miter_of a = a.numbering
 
--- The circuit is one and has both faults, and the variables and the clauses are counted.
+-- The circuit is well-formed and has both faults, and the variables and the clauses of the miter are counted.
 pub record IsCounted (a : Inside) : Type 0 where
   pub circuit : IsCircuit a.numbering.circuit
   pub first : IsFaultOf a.numbering.circuit a.numbering.f

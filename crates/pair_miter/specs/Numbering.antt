@@ -1,4 +1,4 @@
--- What the fields of a numbering show, and what is true of them.
+-- What the fields of a numbering mean, and what holds of them.
 use Rattle.std.specs.Prelude.{◌≡◌, ℕ, ◌+◌, ◌<◌, true, List, length, slice_index}
 use Rattle.net_model.specs.declared.fault.Fault.{Fault}
 use Rattle.net_model.specs.Circuit.{Circuit, IsCircuit, line_count}
@@ -9,7 +9,7 @@ use Rattle.pair_miter.specs.declared.side.Side.TheVariants.{First, Second}
 use Rattle.pair_miter.specs.declared.side.Side.{Side}
 use Rattle.pair_miter.specs.MiterView.{Miter, miter_with}
 
--- The line has variables of its own in the copy: in the second one only where it is split.
+-- The line has a variable of its own in the copy; in the second copy it has one only if it is split.
 abbrev pub HasCopy : Circuit → Fault → Fault → Side → ℕ → Type 0
 HasCopy c f g First line = Unit {0}
 HasCopy c f g Second line = is_split c f g line ≡ true
@@ -22,7 +22,7 @@ pub record AreFirstVariables (c : Circuit) (f g : Fault) (firsts : List ℕ) : T
 abbrev pub numbering_of : Inside → Miter
 numbering_of a = miter_with a.scope.circuit a.scope.f a.scope.g
 
--- The circuit is one, and the relevant lines have their variables.
+-- The circuit is well-formed, the relevant lines have their variables, and `end` is the first variable after these.
 pub record HasVariables (a : Inside) : Type 0 where
   pub circuit : IsCircuit a.scope.circuit
   pub firsts : AreFirstVariables a.scope.circuit a.scope.f a.scope.g a.firsts.items

@@ -8,7 +8,7 @@ pub data Operand : Type 0 where
   constant : Bool → Operand
   variable : ℕ → Operand
 
--- the constant where there is a stuck value, and else the variable
+-- the constant if there is a stuck value, and else the variable
 abbrev pub operand_where : Option Bool → ℕ → Operand
 operand_where stuck x = option_map_or constant stuck (variable x)
 

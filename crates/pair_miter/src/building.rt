@@ -18,8 +18,9 @@ use clause_pool::Pool;
 use net_model::{Circuit, Fault};
 use std::alloc::{AllocError, Global};
 
-/// Builds the miter of two faults of a circuit: an empty pool then has its clauses. After an error it is empty again. In both
-/// cases it has its old places, and grew only where they were too few, to no more than the miter needs.
+/// Builds the miter of faults `f` and `g` of `circuit`, and writes its clauses into the empty pool `pool`. After an
+/// error the pool is empty. In both cases it has its old places, and grew only if they were too few for the miter, to
+/// no more than the miter needs.
 pub fn build<'a>(
     alloc: Global,
     circuit: &'a Circuit,
@@ -38,7 +39,7 @@ pub fn build<'a>(
     MiterSpace::new(alloc, circuit)?.build(f, g, pool)
 }
 
-/// Writes the clauses of the lines and of the differences. Answers how many variables there are.
+/// Writes the clauses of the lines and of the differences into the empty pool. Returns the number of variables.
 pub(crate) fn write_parts(
     alloc: Global,
     pool: &mut Pool,
@@ -74,7 +75,7 @@ fn write_lines(
     Ok(())
 }
 
-// Writes the clauses of all differences, and that there is a difference.
+// Writes the clauses of all differences, and the clause that there is a difference.
 fn write_differences(
     alloc: Global,
     writer: &mut Writer,

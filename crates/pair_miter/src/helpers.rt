@@ -11,7 +11,7 @@ use crate::numbering::Numbering;
 use crate::side::Side;
 use net_model::{Fault, Fold, Gate, Operation, stuck_pin, stuck_stem};
 
-/// How many helpers all lines have.
+/// Returns the number of helpers of all lines.
 pub(crate) fn count_helpers(numbering: &Numbering) -> u32
     ensures { result ≡ helpers_below numbering.now.circuit numbering.now.f numbering.now.g (line_count numbering.now.circuit) }
 {
@@ -22,7 +22,7 @@ pub(crate) fn count_helpers(numbering: &Numbering) -> u32
     count
 }
 
-// How many helpers a line has in both copies.
+// Returns the number of helpers of `line` in both copies.
 fn line_helpers(numbering: &Numbering, line: u32) -> u32
     requires line { line < line_count numbering.now.circuit }
     requires relevant { is_relevant numbering.now.circuit numbering.now.f numbering.now.g line ≡ true }
@@ -36,7 +36,7 @@ fn line_helpers(numbering: &Numbering, line: u32) -> u32
     }
 }
 
-/// How many helpers a line has in a copy.
+/// Returns the number of helpers of `line` in copy `side`.
 pub(crate) fn copy_helpers(numbering: &Numbering, side: Side, line: u32) -> u32
     requires line { line < line_count numbering.now.circuit }
     requires copy { HasCopy numbering.now.circuit numbering.now.f numbering.now.g side line }
@@ -53,7 +53,8 @@ pub(crate) fn copy_helpers(numbering: &Numbering, side: Side, line: u32) -> u32
     gate_helpers(fault, line, circuit.gate(line))
 }
 
-// How many helpers a line's gate has under a fault: an exclusive or has two fewer than it has pins that aren't stuck.
+// Returns the number of helpers of the gate of `line` under `fault`: for an exclusive or two less than the number of
+// pins that aren't stuck, but at least 0; for any other gate 0.
 fn gate_helpers(fault: Fault, line: u32, gate: &Gate) -> u32
     requires { length gate.now.pins < 2 ^ 32 }
     ensures { result ≡ (if is_parity gate.now.kind then count_by (λ b. b) (readings (λ pin read. is_none (stuck_pin fault line pin)) gate.now.pins) - 2 else 0) }
@@ -66,7 +67,7 @@ fn gate_helpers(fault: Fault, line: u32, gate: &Gate) -> u32
     }
 }
 
-// How many pins of a line's gate a fault doesn't stick.
+// Returns how many pins of the gate of `line` the fault doesn't stick.
 fn free_pins(fault: Fault, line: u32, pins: &[u32]) -> u32
     requires { length pins.now < 2 ^ 32 }
     ensures { result ≡ count_by (λ b. b) (readings (λ pin read. is_none (stuck_pin fault line pin)) pins.now) }

@@ -2,7 +2,7 @@
 
 ghost use Rattle.pair_miter.specs.Laws.{TidyKeepsModels, SupersetIsNotFresh, ModelSeparates, SeparatedHasModel, MiterIsSmall, MiterIsProper};
 
-/// An assignment makes a list of clauses true exactly where it does so once the list is tidied.
+/// An assignment satisfies a list of clauses exactly if it satisfies the tidied list.
 pub fn tidy_keeps_models()
     ensures { TidyKeepsModels }
 {}
@@ -17,7 +17,7 @@ pub fn model_separates()
     ensures { ModelSeparates }
 {}
 
-/// Where some vector separates two faults of a circuit, some assignment of all variables satisfies their miter.
+/// If some vector separates two faults of a circuit, some assignment of all variables satisfies their miter.
 pub fn separated_pair_has_model()
     ensures { SeparatedHasModel }
 {}

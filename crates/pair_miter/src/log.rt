@@ -6,8 +6,8 @@ use clause_pool::Lit;
 use std::alloc::{AllocError, Global};
 use std::marker::Model;
 
-/// A chain: the number of the clause that it begins with, the pivots and clause numbers that it resolves with,
-/// and the literal at which its clause is fresh, where it has one.
+/// A chain: the number of the clause with which it begins, the pivots and clause numbers with which it resolves, and
+/// the literal at which its clause is fresh, if it has one.
 #[derive(Debug, Drop)]
 pub struct Chain {
     start: u32,
@@ -39,7 +39,8 @@ impl Model for Log {
 }
 
 impl Chain {
-    /// A chain without steps.
+    /// Returns a chain without steps that begins with clause `start`, and whose clause is fresh at `at`, if that is a
+    /// literal.
     pub fn new(alloc: Global, start: u32, at: Option<Lit>) -> Chain
         ensures { result ≡ record { start = start; fresh_at = at; steps = [] } }
     {
@@ -50,7 +51,8 @@ impl Chain {
         }
     }
 
-    /// One more step: the clause so far is resolved with a numbered clause.
+    /// Adds a step: the clause so far is resolved on `pivot` with the clause of number `clause`. After an error nothing
+    /// has changed.
     pub fn push(&mut self, pivot: Lit, clause: u32) -> Result<(), AllocError>
         ensures ok { OnOk result (self.new ≡ record self.old { steps = self.old.steps ++ (pivot, clause) ∷ [] }) }
         ensures err { OnErr result (self.new ≡ self.old) }
@@ -59,28 +61,28 @@ impl Chain {
         Ok(())
     }
 
-    /// Sets the literal at which the chain's clause is fresh, or takes it away.
+    /// Sets the literal at which the chain's clause is fresh, or removes it.
     pub fn set_at(&mut self, at: Option<Lit>)
         ensures { self.new ≡ record self.old { fresh_at = at } }
     {
         self.at = at;
     }
 
-    /// The number of the clause that the chain begins with.
+    /// Returns the number of the clause with which the chain begins.
     pub fn start(&self) -> u32
         ensures { result ≡ self.now.start }
     {
         self.start
     }
 
-    /// The literal at which the chain's clause is fresh, where it has one.
+    /// Returns the literal at which the chain's clause is fresh, and none exactly if the chain has no such literal.
     pub fn at(&self) -> Option<Lit>
         ensures { result ≡ self.now.fresh_at }
     {
         self.at
     }
 
-    /// The pivots, each with the number of the clause that is resolved with.
+    /// Returns the pivots, each with the number of the clause with which it resolves.
     pub fn steps(&self) -> &[(Lit, u32)]
         ensures { result.now ≡ self.now.steps }
     {
@@ -89,6 +91,7 @@ impl Chain {
 }
 
 impl Log {
+    /// Appends `chain`. After an error nothing has changed.
     pub fn push(&mut self, chain: Chain) -> Result<(), AllocError>
         ensures ok { OnOk result (self.new ≡ self.old ++ chain ∷ []) }
         ensures err { OnErr result (self.new ≡ self.old) }

@@ -36,7 +36,7 @@ impl<'a> Model for Miter<'a> {
     ghost invariant = { IsCounted };
 }
 
-// Written out, it is one step in the proof of each function that lets a miter go.
+// Written by hand, so that dropping a miter is one step in a proof.
 impl Drop for Miter<'_> {
     fn drop(self) {
         let Miter {
@@ -49,7 +49,7 @@ impl Drop for Miter<'_> {
 }
 
 impl<'a> Miter<'a> {
-    /// The space of the miter, for a next one.
+    /// Returns the space of the miter, for a next one.
     pub fn into_space(self) -> MiterSpace<'a>
         ensures { result ≡ self.entry.circuit }
     {
@@ -62,14 +62,16 @@ impl<'a> Miter<'a> {
         MiterSpace { alloc, numbering }
     }
 
-    /// The relevant lines of the two faults, ascending: what their answers can depend on.
+    /// Returns the relevant lines of the two faults, ascending: those that are, or lead to, the lines of reached
+    /// positions.
     pub fn relevant_lines(&self) -> &[u32]
         ensures { result.now ≡ relevant_lines self.now.circuit self.now.f self.now.g }
     {
         self.numbering.relevant_lines()
     }
 
-    /// How many variables there are. They are numbered from 1. The clauses have no others, and none of them twice.
+    /// Returns the number of variables. They are numbered from 1. The clauses have no others, and no clause has one
+    /// twice.
     pub fn variables(&self) -> u32
         ensures value { result ≡ variable_count self.now.circuit self.now.f self.now.g }
         ensures below { result < 2 ^ 31 }
@@ -85,8 +87,8 @@ impl<'a> Miter<'a> {
         self.clauses
     }
 
-    /// The variables of the two copies of each split line that leads to a reached position, in an order in which lines can be
-    /// evaluated: first the sources, then the gates, each after those that it reads.
+    /// Returns the variables of the two copies of each split line that leads to a reached position, in an evaluation
+    /// order: first the sources, then the gates, each after those that it reads.
     pub fn split_lines(&self) -> Result<Vec<Copies>, AllocError>
         ensures lines { IfOk result (λ lines. AreSplitLines self.now.circuit self.now.f self.now.g lines.items) }
         ensures inside { IfOk result (λ lines. All (AreVariables (variable_count self.now.circuit self.now.f self.now.g)) lines.items) }
@@ -94,7 +96,7 @@ impl<'a> Miter<'a> {
         split_lines(self.alloc, &self.numbering)
     }
 
-    /// The vector of a model of the miter. The faults answer differently to it.
+    /// Returns the vector of a model of the miter. The faults answer differently to it.
     ///
     /// The model has a bit for each variable, that of variable 1 first.
     pub fn vector_of(&self, model: &Bits) -> Result<Vector, AllocError>
@@ -115,7 +117,7 @@ impl<'a> Miter<'a> {
     }
 }
 
-// The bit of a relevant source in the vector of a model.
+// Returns the bit of a relevant source in the vector of a model.
 fn source_bit(numbering: &Numbering, model: &Bits, source: u32) -> bool
     requires whole { length model.now ≡ variable_count numbering.now.circuit numbering.now.f numbering.now.g }
     requires source { source < numbering.now.circuit.sources }
@@ -134,7 +136,7 @@ fn source_bit(numbering: &Numbering, model: &Bits, source: u32) -> bool
     false
 }
 
-// The bit of a relevant line in a copy.
+// Returns the bit of a relevant line in copy `side`.
 fn copy_bit(numbering: &Numbering, model: &Bits, side: Side, line: u32) -> bool
     requires whole { length model.now ≡ variable_count numbering.now.circuit numbering.now.f numbering.now.g }
     requires line { line < line_count numbering.now.circuit }

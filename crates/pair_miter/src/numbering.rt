@@ -20,9 +20,9 @@ use std::marker::Model;
 #[derive(Drop)]
 pub(crate) struct Numbering<'a> {
     scope: PairScope<'a>,
-    // of each relevant line, in the first copy; at other lines those of pairs before stay
+    // The variable of each relevant line in the first copy. At other lines those of earlier pairs stay.
     firsts: Vec<u32>,
-    // the first variable that is no line's
+    // The first variable after those of the lines.
     end: u32,
 }
 
@@ -38,7 +38,7 @@ impl<'a> Model for Numbering<'a> {
 }
 
 impl<'a> Numbering<'a> {
-    /// The variables of the miter of two faults that aren't there.
+    /// Returns the variables of the miter of `circuit` without faults.
     pub(crate) fn new(alloc: Global, circuit: &'a Circuit) -> Result<Numbering<'a>, AllocError>
         ensures { IfOk result (λ numbering. numbering ≡ miter_with circuit.now Free Free) }
     {
@@ -48,7 +48,7 @@ impl<'a> Numbering<'a> {
         Ok(Numbering { scope, firsts, end })
     }
 
-    /// Numbers the lines of the miter of two faults instead.
+    /// Replaces the faults by `f` and `g`, and numbers the lines of their miter.
     pub(crate) fn show(&mut self, f: Fault, g: Fault)
         requires first { IsFaultOf self.old.circuit f }
         requires second { IsFaultOf self.old.circuit g }
@@ -65,7 +65,7 @@ impl<'a> Numbering<'a> {
         self.scope.circuit()
     }
 
-    /// The fault of a copy.
+    /// Returns the fault of copy `side`.
     pub(crate) fn fault(&self, side: Side) -> Fault
         ensures { result ≡ fault_of self.now.circuit self.now.f self.now.g side }
     {
@@ -75,7 +75,7 @@ impl<'a> Numbering<'a> {
         }
     }
 
-    /// Whether a line is relevant.
+    /// Returns whether `line` is relevant.
     pub(crate) fn relevant(&self, line: u32) -> bool
         requires { line < line_count self.now.circuit }
         ensures { result ≡ is_relevant self.now.circuit self.now.f self.now.g line }
@@ -83,7 +83,7 @@ impl<'a> Numbering<'a> {
         self.scope.relevant(line)
     }
 
-    /// Whether a line is split.
+    /// Returns whether `line` is split.
     pub(crate) fn split(&self, line: u32) -> bool
         requires { line < line_count self.now.circuit }
         ensures value { result ≡ is_split self.now.circuit self.now.f self.now.g line }
@@ -92,7 +92,7 @@ impl<'a> Numbering<'a> {
         self.scope.split(line)
     }
 
-    /// The relevant lines, ascending.
+    /// Returns the relevant lines, ascending.
     pub(crate) fn relevant_lines(&self) -> &[u32]
         ensures value { result.now ≡ relevant_lines self.now.circuit self.now.f self.now.g }
         ensures circuit { IsCircuit self.now.circuit }
@@ -100,7 +100,7 @@ impl<'a> Numbering<'a> {
         self.scope.relevant_lines()
     }
 
-    /// The reached positions, ascending.
+    /// Returns the reached positions, ascending.
     pub(crate) fn reached_positions(&self) -> &[u32]
         ensures value { result.now ≡ reached_positions self.now.circuit self.now.f self.now.g }
         ensures circuit { IsCircuit self.now.circuit }
@@ -108,7 +108,7 @@ impl<'a> Numbering<'a> {
         self.scope.reached_positions()
     }
 
-    /// The split lines: the sources, and then the gates, each after those that it reads.
+    /// Returns the split lines: the sources, and then the gates, each after those that it reads.
     pub(crate) fn split_lines(&self) -> &[u32]
         ensures value { AreSplitInOrder self.now.circuit self.now.f self.now.g result.now }
         ensures circuit { IsCircuit self.now.circuit }
@@ -116,7 +116,7 @@ impl<'a> Numbering<'a> {
         self.scope.split_lines()
     }
 
-    /// The variable of a relevant line in a copy.
+    /// Returns the variable of a relevant line in copy `side`.
     pub(crate) fn variable(&self, side: Side, line: u32) -> u32
         requires line { line < line_count self.now.circuit }
         requires relevant { is_relevant self.now.circuit self.now.f self.now.g line ≡ true }
@@ -129,7 +129,7 @@ impl<'a> Numbering<'a> {
         }
     }
 
-    /// The first variable that is no line's.
+    /// Returns the first variable after those of the lines.
     pub(crate) fn end(&self) -> u32
         ensures value { result ≡ 1 + variables_below self.now.circuit self.now.f self.now.g (line_count self.now.circuit) }
         ensures circuit { IsCircuit self.now.circuit }
@@ -138,7 +138,8 @@ impl<'a> Numbering<'a> {
     }
 }
 
-// Numbers the relevant lines: each gets its variable in the first copy. Answers the first variable that is no line's.
+// Numbers the relevant lines: each gets its variable in the first copy. Returns the first variable after those of the
+// lines.
 fn number_lines(firsts: &mut Vec<u32>, scope: &PairScope) -> u32
     requires whole { length firsts.old.items ≡ line_count scope.now.circuit }
     requires circuit { IsCircuit scope.now.circuit }
@@ -153,7 +154,7 @@ fn number_lines(firsts: &mut Vec<u32>, scope: &PairScope) -> u32
     end
 }
 
-// How many variables a relevant line has.
+// Returns how many variables a relevant line has.
 fn line_variables(scope: &PairScope, line: u32) -> u32
     requires line { line < line_count scope.now.circuit }
     requires relevant { is_relevant scope.now.circuit scope.now.f scope.now.g line ≡ true }

@@ -1,4 +1,4 @@
-//! What the pins of a gate give in one copy.
+//! `Operand`, what a pin of a gate gives in one copy: a variable or a constant.
 
 ghost use Rattle.std.specs.Prelude.{◌≡◌};
 ghost use Rattle.pair_miter.specs.Operand.{is_constant, operand_where, variable_of};
@@ -9,7 +9,7 @@ use std::marker::Model;
 #[derive(Drop)]
 pub(crate) struct Operand {
     stuck: Option<bool>,
-    // of the line, also where the pin is stuck
+    // The variable of the line, also if the pin is stuck.
     variable: u32,
 }
 
@@ -22,14 +22,15 @@ impl Model for Operand {
 }
 
 impl Operand {
-    /// The operand of a pin that is stuck so, or that reads a line with this variable.
+    /// Returns the operand of a pin: the value `stuck` if the pin is stuck, else `variable`, that of the line that it
+    /// reads.
     pub(crate) fn new(stuck: Option<bool>, variable: u32) -> Operand
         ensures { result ≡ operand_where stuck variable }
     {
         Operand { stuck, variable }
     }
 
-    /// The variable, unless it is a constant.
+    /// Returns the variable, or none for a constant.
     pub(crate) fn variable(&self) -> Option<u32>
         ensures { result ≡ variable_of self.now }
     {
@@ -39,7 +40,7 @@ impl Operand {
         }
     }
 
-    /// Whether it is this constant.
+    /// Returns whether it is the constant `bit`.
     pub(crate) fn is_constant(&self, bit: bool) -> bool
         ensures { result ≡ is_constant bit self.now }
     {

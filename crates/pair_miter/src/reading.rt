@@ -11,7 +11,7 @@ use crate::side::Side;
 use net_model::{Gate, stuck_pin, stuck_position};
 use std::alloc::AllocError;
 
-/// Reads what the pins of a line's gate give.
+/// Replaces `operands` by what the pins of `gate`, the gate of `line`, give in copy `side`.
 pub(crate) fn read_pins(
     operands: &mut Vec<Operand>,
     numbering: &Numbering,
@@ -33,7 +33,7 @@ pub(crate) fn read_pins(
     Ok(())
 }
 
-/// What a reached position shows.
+/// Returns what a reached position shows in copy `side`.
 pub(crate) fn shown(numbering: &Numbering, side: Side, position: u32) -> Operand
     requires position { position < length numbering.now.circuit.positions }
     requires reached { is_reached numbering.now.circuit numbering.now.f numbering.now.g position ≡ true }
@@ -45,7 +45,7 @@ pub(crate) fn shown(numbering: &Numbering, side: Side, position: u32) -> Operand
     operand(numbering, side, stuck, line)
 }
 
-// What a reader of a relevant line gives: the value at which it is stuck, or else the line's variable.
+// Returns what a reader of a relevant line gives: the value at which it is stuck, or else the line's variable.
 fn operand(numbering: &Numbering, side: Side, stuck: Option<bool>, line: u32) -> Operand
     requires line { line < line_count numbering.now.circuit }
     requires relevant { is_relevant numbering.now.circuit numbering.now.f numbering.now.g line ≡ true }

@@ -1,4 +1,4 @@
-//! The rows of a gate, written into a pool.
+//! The rows of a gate (Tseitin's encoding), written into a pool.
 
 ghost use Rattle.std.specs.Prelude.{◌≡◌, ◌+◌, ◌<◌, ◌≤◌, ◌^◌, true, [], ◌∷◌, length, All, IsTrue, MatchOption};
 ghost use Rattle.net_model.specs.Gate.{takes_pins};
@@ -16,8 +16,8 @@ use clause_pool::{Lit, Pool};
 use net_model::{Fold, Kind, Operation};
 use std::alloc::AllocError;
 
-/// Writes the rows of a gate: its output's variable, and its first helper, which only an exclusive or of three variables
-/// or more has.
+/// Writes the rows of a gate of kind `kind` with the output variable `output` and these operands. `helper` is its first
+/// helper, which only an exclusive or of three or more variables has.
 pub(crate) fn write_gate(
     tidier: &mut Tidier,
     pool: &mut Pool,
@@ -48,7 +48,7 @@ pub(crate) fn write_gate(
     }
 }
 
-// A literal holds exactly where one of the operands has the deciding value.
+// Writes that `l` holds exactly if one of the operands has the value `decides`.
 fn write_decided(
     tidier: &mut Tidier,
     pool: &mut Pool,
@@ -73,7 +73,7 @@ fn write_decided(
     tidier.write_all(pool, operands, l.opposite(), decides)
 }
 
-// A literal and a variable have one value.
+// Writes that `y` and the variable have the same value.
 fn write_same(tidier: &mut Tidier, pool: &mut Pool, y: Lit, variable: u32) -> Result<(), AllocError>
     requires output { y.variable ≤ tidier.old }
     requires variable { IsVariable tidier.old variable }
@@ -84,7 +84,7 @@ fn write_same(tidier: &mut Tidier, pool: &mut Pool, y: Lit, variable: u32) -> Re
     write_clauses(tidier, pool, &[[y.opposite(), x], [y, x.opposite()]])
 }
 
-// A literal tells whether an odd number of operands is 1. An odd number of constants 1 turns it.
+// Writes that `y` holds exactly if an odd number of operands is 1. An odd number of constants 1 inverts it.
 fn write_odd(
     tidier: &mut Tidier,
     pool: &mut Pool,
@@ -113,7 +113,8 @@ fn write_odd(
     write_xor_onward(tidier, pool, out, helper, before, second, rest)
 }
 
-// A literal is the exclusive or of a literal, of a variable and of the operands. Helpers stand for the parts before.
+// Writes that `y` is the exclusive or of `first`, `second` and the variables among the operands. Helpers have the
+// partial results.
 fn write_xor_onward(
     tidier: &mut Tidier,
     pool: &mut Pool,
@@ -146,7 +147,7 @@ fn write_xor_onward(
     write_xor_of_two(tidier, pool, y, before, last)
 }
 
-// A literal is the exclusive or of a literal and a variable.
+// Writes that `a` is the exclusive or of `b` and the variable.
 fn write_xor_of_two(
     tidier: &mut Tidier,
     pool: &mut Pool,
@@ -171,7 +172,7 @@ fn write_xor_of_two(
     write_clauses(tidier, pool, &clauses)
 }
 
-// Writes clauses of so many literals.
+// Writes clauses of `N` literals.
 fn write_clauses<const N: usize>(
     tidier: &mut Tidier,
     pool: &mut Pool,
@@ -187,7 +188,7 @@ fn write_clauses<const N: usize>(
     Ok(())
 }
 
-// A literal is the second operand where the first is 0, and the third where it is 1.
+// Writes that `y` is the second operand if the first is 0, and the third if it is 1.
 fn write_chosen(
     tidier: &mut Tidier,
     pool: &mut Pool,
@@ -205,7 +206,7 @@ fn write_chosen(
     write_case(tidier, pool, y, false, chooser, second)
 }
 
-// A literal is the chosen operand, unless the chooser has a value.
+// Writes that `y` is `chosen`, unless `chooser` has the value `unless`.
 fn write_case(
     tidier: &mut Tidier,
     pool: &mut Pool,
@@ -224,14 +225,14 @@ fn write_case(
     tidier.write_case(pool, y, unless, chooser, false, chosen)
 }
 
-// Whether an operand is this constant.
+// Returns whether an operand is the constant `bit`.
 fn has_constant(bit: bool, operands: &[Operand]) -> bool
     ensures { result ≡ has_constant bit operands.now }
 {
     operands.iter().any(|operand| operand.is_constant(bit))
 }
 
-// Whether an odd number of operands is the constant 1.
+// Returns whether an odd number of operands is the constant 1.
 fn has_odd_constants(operands: &[Operand]) -> bool
     ensures { result ≡ has_odd_constants operands.now }
 {
@@ -243,7 +244,7 @@ fn has_odd_constants(operands: &[Operand]) -> bool
         == 1
 }
 
-// The first variable, and the operands after it.
+// Returns the first variable, and the operands after it.
 fn next_variable(operands: &[Operand]) -> Option<(u32, &[Operand])>
     ensures { MatchOption result (variables operands.now ≡ []) (λ found. variables operands.now ≡ found.0 ∷ variables found.1.now) }
 {

@@ -1,6 +1,6 @@
-//! The sides of a pair of faults.
+//! `Side`, one of the two copies of the circuit.
 
-/// A side of the pair: the copy of the circuit under the first fault, or the one under the second.
+/// A side of a pair of faults: the copy of the circuit under the first fault, or the one under the second.
 #[derive(Clone, Copy)]
 pub enum Side {
     First,

@@ -1,4 +1,4 @@
-//! The space of a circuit's miters, kept from pair to pair.
+//! `MiterSpace`, the space of a circuit's miters, reused from pair to pair.
 
 ghost use Rattle.std.specs.Prelude.{◌≡◌, [], IfOk, OnOk, OnErr};
 ghost use Rattle.net_model.specs.Fault.{IsFaultOf};
@@ -14,7 +14,8 @@ use net_model::{Circuit, Fault};
 use std::alloc::{AllocError, Global};
 use std::marker::Model;
 
-/// The space in which the miters of pairs of a circuit's faults are built one after another; a pair costs its cone.
+/// The space in which the miters of pairs of a circuit's faults are built one after another. What a pair costs grows
+/// with its scope.
 #[derive(Drop)]
 pub struct MiterSpace<'a> {
     pub(crate) alloc: Global,
@@ -30,7 +31,7 @@ impl<'a> Model for MiterSpace<'a> {
 }
 
 impl<'a> MiterSpace<'a> {
-    /// Space for the miters of a circuit.
+    /// Returns space for the miters of `circuit`.
     pub fn new(alloc: Global, circuit: &'a Circuit) -> Result<MiterSpace<'a>, AllocError>
         ensures { IfOk result (λ space. space ≡ circuit.now) }
     {
@@ -38,9 +39,9 @@ impl<'a> MiterSpace<'a> {
         Ok(MiterSpace { alloc, numbering })
     }
 
-    /// Builds the miter of two faults of the circuit: an empty pool then has its clauses. After an error it is empty again, and
-    /// the space is lost. In both cases the pool has its old places, and grew only where they were too few, to no more than
-    /// the miter needs.
+    /// Builds the miter of faults `f` and `g` of the circuit, and writes its clauses into the empty pool `pool`. After
+    /// an error the pool is empty, and the space is gone. In both cases the pool has its old places, and grew only if
+    /// they were too few for the miter, to no more than the miter needs.
     pub fn build(self, f: &Fault, g: &Fault, pool: &mut Pool) -> Result<Miter<'a>, AllocError>
         requires empty { pool.old.clauses ≡ [] }
         requires first { IsFaultOf self f.now }

@@ -1,4 +1,4 @@
-//! The split lines of a miter, in an order in which lines can be evaluated.
+//! The split lines of a miter, in an evaluation order.
 
 ghost use Rattle.std.specs.Prelude.{◌≡◌, ◌<◌, ◌++◌, true, [], ◌∷◌, IfOk, OnOk};
 ghost use Rattle.net_model.specs.Circuit.{line_count};
@@ -16,7 +16,8 @@ pub struct Copies {
     pub second: u32,
 }
 
-/// The copies of all split lines that have variables: of the sources, and then of the gates, each after those that it reads.
+/// Returns the copies of all split lines that have variables: of the sources, and then of the gates, each after those
+/// that it reads.
 pub(crate) fn split_lines(alloc: Global, numbering: &Numbering) -> Result<Vec<Copies>, AllocError>
     ensures { IfOk result (λ lines. AreSplitLines numbering.now.circuit numbering.now.f numbering.now.g lines.items) }
 {

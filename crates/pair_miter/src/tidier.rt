@@ -12,11 +12,11 @@ use clause_pool::{Lit, Pool};
 use std::alloc::{AllocError, Global};
 use std::marker::Model;
 
-/// Writes tidied clauses over so many variables. No literal is marked between two clauses.
+/// A writer of tidied clauses over `variables` variables. No literal is marked between two clauses.
 #[derive(Drop)]
 pub(crate) struct Tidier {
     variables: u32,
-    // by the literal's code
+    // A mark for each literal, by its code.
     marks: Vec<bool>,
     kept: Vec<Lit>,
     row: Vec<Lit>,
@@ -47,7 +47,7 @@ impl Tidier {
         })
     }
 
-    /// The literal of one of the variables.
+    /// Returns the literal of one of the variables.
     pub(crate) fn literal(&self, variable: u32, positive: bool) -> Lit
         requires { IsVariable self.now variable }
         ensures { result ≡ record { variable = variable; positive = positive } }
@@ -56,7 +56,7 @@ impl Tidier {
         Lit::new(variable, positive)
     }
 
-    /// Writes a clause.
+    /// Writes `clause`, tidied.
     pub(crate) fn write(&mut self, pool: &mut Pool, clause: &[Lit]) -> Result<(), AllocError>
         requires { All (λ l. l.variable ≤ self.old) clause.now }
         ensures written { WritesClauses result pool.old pool.new (tidy (clause.now ∷ [])) }
@@ -65,7 +65,8 @@ impl Tidier {
         write_once(&mut self.marks, &mut self.kept, pool, clause)
     }
 
-    /// Writes the clause of a literal and of the variables among operands, all with one sign.
+    /// Writes the clause of the literal `first` and of the variables among `operands`, these all with the sign
+    /// `positive`.
     pub(crate) fn write_all(
         &mut self,
         pool: &mut Pool,
@@ -82,8 +83,8 @@ impl Tidier {
         write_once(&mut self.marks, &mut self.kept, pool, self.row.as_slice())
     }
 
-    /// Writes the clause of a literal and two operands with signs: a constant that is false is left out, and with one that
-    /// is true so is the clause.
+    /// Writes the clause of the literal `l` and of `chooser` and `chosen` with the signs `unless` and `positive`. A
+    /// constant that is false under its sign is left out, and with one that is true the whole clause is left out.
     pub(crate) fn write_case(
         &mut self,
         pool: &mut Pool,
@@ -107,7 +108,7 @@ impl Tidier {
     }
 }
 
-// Makes a row of a literal and of the variables among operands, all with one sign.
+// Replaces `row` by the literal `first` and the variables among `operands`, these all with the sign `positive`.
 fn fill(
     row: &mut Vec<Lit>,
     first: Lit,
@@ -125,7 +126,7 @@ fn fill(
     Ok(())
 }
 
-// Makes a row of a literal and of the variables among two operands with signs.
+// Replaces `row` by the literal `l` and the variables among `chooser` and `chosen` with their signs.
 fn fill_case(
     row: &mut Vec<Lit>,
     l: Lit,
@@ -144,7 +145,7 @@ fn fill_case(
     push_literal(row, positive, chosen)
 }
 
-// Adds the literal of an operand with a sign, unless it is a constant.
+// Appends the literal of `operand` with the sign `positive`, unless it is a constant.
 fn push_literal(row: &mut Vec<Lit>, positive: bool, operand: &Operand) -> Result<(), AllocError>
     requires { IsOperand (2 ^ 31 - 1) operand.now }
     ensures { OnOk result (row.new.items ≡ row.old.items ++ operand_literals positive operand.now) }
@@ -155,7 +156,7 @@ fn push_literal(row: &mut Vec<Lit>, positive: bool, operand: &Operand) -> Result
     Ok(())
 }
 
-// Writes a clause, without marks before and after.
+// Writes `clause`, tidied. No literal is marked before or after.
 fn write_once(
     marks: &mut Vec<bool>,
     kept: &mut Vec<Lit>,
@@ -179,7 +180,7 @@ fn write_once(
     }
 }
 
-// Keeps and marks the literals of a clause, each once. Answers whether there are opposite ones.
+// Keeps and marks the literals of `clause`, each once. Returns whether there are opposite ones.
 fn keep_once(marks: &mut Vec<bool>, kept: &mut Vec<Lit>, clause: &[Lit]) -> bool
     requires places { HavePlaces marks.old.items clause.now }
     requires clear { AreMarksOfClause marks.old.items [] }
@@ -202,7 +203,7 @@ fn keep_once(marks: &mut Vec<bool>, kept: &mut Vec<Lit>, clause: &[Lit]) -> bool
     opposites
 }
 
-// Takes the marks of a clause's literals away.
+// Removes the marks of the literals of `clause`.
 fn clear_marks(marks: &mut Vec<bool>, clause: &[Lit])
     requires places { HavePlaces marks.old.items clause.now }
     requires marked { AreMarksOfClause marks.old.items clause.now }
@@ -214,8 +215,8 @@ fn clear_marks(marks: &mut Vec<bool>, clause: &[Lit])
     }
 }
 
-// Adds a clause to a pool, which grows only where it lacks room. There are numbers for no more clauses than this, and
-// no miter has so many.
+// Adds `clause` to `pool`, which grows only if it lacks room. After `u32::MAX` clauses there is no number left for one
+// more, but no miter has as many.
 fn push(pool: &mut Pool, clause: &[Lit]) -> Result<(), AllocError>
     ensures written { WritesClauses result pool.old pool.new (clause.now ∷ []) }
 {

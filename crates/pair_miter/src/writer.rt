@@ -63,7 +63,7 @@ impl Writer {
         Ok(())
     }
 
-    // Writes the clauses of a relevant line in a copy.
+    // Writes the clauses of a relevant line in copy `side`.
     fn write_copy(
         &mut self,
         pool: &mut Pool,
@@ -103,7 +103,7 @@ impl Writer {
         Ok(())
     }
 
-    /// Writes the clauses of a reached position's difference.
+    /// Writes the clauses of the difference of a reached position.
     pub(crate) fn write_difference(
         &mut self,
         pool: &mut Pool,

@@ -21,7 +21,7 @@ use Rattle.net_model.proofs.ReachedPositions.{none_reached}
 use Rattle.net_model.proofs.ScopeLaws.{none_split}
 use Rattle.net_model.proofs.Filtered.{filter_none, filter_same}
 
--- what passes a test is listed, of a list of all numbers below a count
+-- numbers that pass a test are listed, from a list of all numbers below a count
 module _ (count : ℕ) (test : ℕ → Bool) (xs : List ℕ) (a : Listed) where
   pub are_listed : ((n : ℕ) → n < count → Contains xs n) → ((n : ℕ) → Contains xs n → n < count) → IsListed count test (filter test xs) a → AreListed a
   are_listed all inside is = record {
@@ -35,7 +35,7 @@ module _ (count : ℕ) (test : ℕ → Bool) (xs : List ℕ) (a : Listed) where
     room = omega (arith, is.whole, is.room);
   }
 
-  -- where nothing passes, none is marked
+  -- if no number passes, blank marks are right
   pub blank_listed : ((n : ℕ) → test n ≡ false) → IsBlank count a → IsListed count test (filter test xs) a
   blank_listed none blank = record {
     whole = blank.whole;
@@ -50,7 +50,7 @@ range_all count n h = Contains-range 0 count n (omega arith) (omega (arith, h))
 pub range_inside : (count n : ℕ) → Contains (range_with_len 0 count) n → n < count
 range_inside count n m = omega (arith, (range-within 0 count n m).1)
 
--- the same list by a test that is alike
+-- a list stays right for a test that agrees below the count
 pub listed_alike : (n count : ℕ) (test other : ℕ → Bool) (a : Listed) → n ≡ count → ((k : ℕ) → k < count → test k ≡ other k)
     → IsListed n test (filter test (range_with_len 0 n)) a → IsListed count other (filter other (range_with_len 0 count)) a
 listed_alike n count test other a e alike is =

@@ -47,22 +47,22 @@ module _ (c : Circuit) (wiring : Wiring) (wired : IsWiring c wiring) (lines : Li
   lines_distinct : IsDistinct eqb lines
   lines_distinct = IsDistinct-IsPermutation eqb same_either_way (all_lines c) lines (IsPermutation-sym lines (all_lines c) lines_permuted) (IsDistinct-from_apart eqb (all_lines c) (range_apart (line_count c)))
 
-  -- no line stands at two places
+  -- no line is at two places
   pub lines_apart : (j k : ℕ) → j < k → k < length lines → get_or lines j 0 ≢ get_or lines k 0
   lines_apart j k lt h e = true_false (eqb (get_or lines j 0) (get_or lines k 0)) (eq-eqb (get_or lines j 0) (get_or lines k 0) e) (apart_from_distinct eqb lines j k 0 lines_distinct lt h)
 
-  -- each line stands at a place
+  -- each line has a place
   pub lines_all : (line : ℕ) → line < line_count c → Contains lines line
   lines_all line h = Contains-permutation (all_lines c) lines line (IsPermutation-sym lines (all_lines c) lines_permuted) (Contains-range 0 (line_count c) line (omega arith) (omega (arith, h)))
 
-  -- and nothing else
+  -- nothing but lines has a place
   pub lines_inside : (line : ℕ) → Contains lines line → line < line_count c
   lines_inside line m = let within = range-within 0 (line_count c) line (Contains-permutation lines (all_lines c) line lines_permuted m) in omega (arith, within.1)
 
   pub line_inside : (place : ℕ) → place < line_count c → get_or lines place 0 < line_count c
   line_inside place h = lines_inside (get_or lines place 0) (place, omega (arith, h, lines_count), get_or_default lines place (get_or lines place 0) 0 (omega (arith, h, lines_count)))
 
-  -- the sources stand first
+  -- the sources come first
   source_at : (place : ℕ) → place < c.sources → get_or lines place 0 ≡ place
   source_at place h =
       ap (λ xs. get_or xs place 0) are
@@ -70,21 +70,21 @@ module _ (c : Circuit) (wiring : Wiring) (wired : IsWiring c wiring) (lines : Li
       ∙ get_or-range_with_len 0 c.sources place 0 h
       ∙ omega arith
 
-  -- a gate stands behind them
+  -- a gate's place is after the sources
   pub gate_behind : (place : ℕ) → c.sources ≤ get_or lines place 0 → c.sources ≤ place
   gate_behind place h = elim (cases_lt place c.sources) [
     | inl source ↦ absurd (omega (arith, h, source_at place source, source))
     | inr gate ↦ gate
   ]
 
-  -- and after them the gates
+  -- after the sources come the gates of the order
   pub gate_line : (place : ℕ) → c.sources ≤ place → get_or lines place 0 ≡ get_or wiring.order (place - c.sources) 0
   gate_line place h = ap (λ xs. get_or xs place 0) are ∙ get_or-append_right (range_with_len 0 c.sources) wiring.order c.sources place 0 (length-range_with_len 0 c.sources) h
 
   pub gate_place : (at : ℕ) → get_or lines (c.sources + at) 0 ≡ get_or wiring.order at 0
   gate_place at = gate_line (c.sources + at) (omega arith) ∙ ap (λ n. get_or wiring.order n 0) (let e : c.sources + at - c.sources ≡ at = omega arith in e)
 
-  -- a line that a gate reads stands before it
+  -- a line that a gate reads comes before the gate's line
   pub stands_before : (first second : ℕ) → first < line_count c → second < line_count c → Feeds c (get_or lines first 0) (get_or lines second 0) → first < second
   stands_before first second h k feeds =
       let gates = places_are_gates c wiring wired in

@@ -1,4 +1,4 @@
--- The lines that lead to positions, from those that these show back by the places from the end.
+-- The lines that lead to positions, found back from the lines that the positions show.
 use Rattle.std.proofs.Common.{◌≡◌, ◌≢◌, ℕ, zero, suc, ◌+◌, ◌<◌, ◌≤◌, ◌⊎◌, List, length, get_or, refl, sym, ◌∙◌, ap, subst, arith, inl, inr}
 use Rattle.std.specs.Prelude.{Bool, true, false, ◌==◌}
 use Rattle.std.specs.Cmp.{both_ways}
@@ -18,7 +18,7 @@ use Rattle.pair_scope.proofs.PlaceLemmas.{place_of, stands_before, end_twice}
 
 -- ---- lines that wait
 
--- one line more waits
+-- one more line waits
 pub woken_more : (these more : ℕ → Type 0) (count : ℕ) (places : List ℕ) (old queue new : List Bool) (line place : ℕ) → place ≡ from_end count (get_or places line 0)
     → ((l : ℕ) → these l → more l) → ((l : ℕ) → more l → these l ⊎ (line ≡ l)) → more line
     → is_pending new place ≡ true → ((n : ℕ) → n ≢ place → is_pending new n ≡ is_pending queue n)
@@ -50,7 +50,7 @@ module _ (c : Circuit) (positions : List ℕ) where
   unfolding leads_to
   shown_leads line (at, m, e) = any_from (λ at. leads_within c (length c.gates) line (get_or c.positions at 0)) positions at m (leads_here c (length c.gates) line (get_or c.positions at 0) (eq-eqb line (get_or c.positions at 0) (sym e)))
 
-  -- ---- on the way
+  -- ---- while lines wait
 
   -- A line that a position shows, or that the gate of a found line reads, is found or waits. Only lines that lead to the positions
   -- are found or wait.
@@ -63,7 +63,7 @@ module _ (c : Circuit) (positions : List ℕ) where
     pub from_within : from ≤ line_count c
 
   module _ (wiring : Wiring) (lines places : List ℕ) (is : ArePlacesOf c wiring lines places) where
-    -- the line at the place from the end of a line is the line
+    -- the place of a line, counted from the end, has that line
     back_again : (line : ℕ) → line < line_count c → get_or lines (from_end (line_count c) (from_end (line_count c) (get_or places line 0))) 0 ≡ line
     back_again line h =
         let place = place_of c wiring lines places is line h in
@@ -164,6 +164,6 @@ module _ (c : Circuit) (positions : List ℕ) where
             let w = passing (λ at. leads_within c (length c.gates) line (get_or c.positions at 0)) positions t in
             found_back (length c.gates) line (get_or c.positions w.0 0) w.2 (found_shown (get_or c.positions w.0 0) (w.0, w.1, refl))
 
-        -- where none waits, the lines that lead to the positions are found and no others
+        -- if none waits, exactly the lines that lead to the positions are found
         pub found_all : (line : ℕ) → is_pending found line ≡ leads_to_shown c positions line
         found_all line = both_ways (is_pending found line) (leads_to_shown c positions line) (so_far.sound line) (found_leading line)

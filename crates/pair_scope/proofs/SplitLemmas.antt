@@ -1,4 +1,4 @@
--- The split lines, from the first changed ones on by their places.
+-- The split lines, found by their places starting at the first changed ones.
 use Rattle.std.proofs.Common.{◌≡◌, ◌≢◌, ℕ, zero, suc, ◌+◌, ◌-◌, ◌<◌, ◌≤◌, ◌⊎◌, List, [], ◌∷◌, ◌++◌, length, take, get_or, set, refl, sym, ◌∙◌, ap, subst, arith, inl, inr}
 use Rattle.std.specs.Prelude.{Bool, true, false, Option, None, Some, ◌==◌, filter}
 use Rattle.std.specs.Cmp.{both_ways}
@@ -37,10 +37,10 @@ split_first c f g line begins = elim begins [
   | inr e ↦ or_right (reaches_line c f line) (reaches_line c g line) (reached_first c g line e)
 ]
 
--- ---- on the way
+-- ---- while lines wait
 
--- The lines at the places below one have been taken. A line that a fault changes first, or whose gate reads a marked line, is
--- marked or waits. Only split lines are marked or wait, and the marked ones are listed by their places.
+-- The lines at the places below `from` have been taken. A line that a fault changes first, or whose gate reads a marked
+-- line, is marked or waits. Only split lines are marked or wait, and the marked ones are listed by their places.
 pub record IsSplitSoFar (c : Circuit) (f g : Fault) (lines places : List ℕ) (from : ℕ) (queue marks : List Bool) (list : List ℕ) : Type 0 where
   pub sound : (line : ℕ) → bit_at marks line ≡ true → is_split c f g line ≡ true
   pub waiting : (place : ℕ) → is_pending queue place ≡ true → is_split c f g (get_or lines place 0) ≡ true
@@ -52,7 +52,7 @@ pub record IsSplitSoFar (c : Circuit) (f g : Fault) (lines places : List ℕ) (f
   pub from_within : from ≤ line_count c
 
 module _ (c : Circuit) (f g : Fault) (wiring : Wiring) (lines places : List ℕ) (is : ArePlacesOf c wiring lines places) where
-  -- at first the lines wait that the faults change first
+  -- at first the lines that the faults change first wait
   pub split_none : (none first second marks : List Bool) (list : List ℕ) → IsEmpty none → HasBegun f lines places none first → HasBegun g lines places first second
       → ((line : ℕ) → bit_at marks line ≡ false) → list ≡ [] → IsSplitSoFar c f g lines places 0 second marks list
   split_none none first second marks list empty one two unmarked no_list = record {
@@ -76,7 +76,7 @@ module _ (c : Circuit) (f g : Fault) (wiring : Wiring) (lines places : List ℕ)
   }
 
   module _ (from : ℕ) (queue marks : List Bool) (list : List ℕ) (so_far : IsSplitSoFar c f g lines places from queue marks list) where
-    -- the lowest that waits is marked, and its readers wait
+    -- the lowest line that waits is marked, and its readers wait
     pub split_more : (taken more : List Bool) (place line : ℕ) → length marks ≡ line_count c → place < line_count c → from ≤ place → line ≡ get_or lines place 0 → IsLowest queue taken place → AreWokenFrom c line lines places taken more
         → IsSplitSoFar c f g lines places (place + 1) more (set marks line true) (list ++ line ∷ [])
     split_more taken more place line whole inside above at lowest woken =
@@ -173,11 +173,11 @@ module _ (c : Circuit) (f g : Fault) (wiring : Wiring) (lines places : List ℕ)
           | inr two ↦ marked_from (first_changed g) (λ start e. marked_first start (inr e)) line two
         ]
 
-        -- where none waits, the split lines are marked and no others
+        -- if none waits, exactly the split lines are marked
         pub split_marks : (line : ℕ) → bit_at marks line ≡ is_split c f g line
         split_marks line = both_ways (bit_at marks line) (is_split c f g line) (so_far.sound line) (marked_split line)
 
-        -- and they are listed
+        -- if none waits, the split lines are listed
         pub split_list : list ≡ filter (is_split c f g) lines
         split_list =
             let test = is_split c f g in

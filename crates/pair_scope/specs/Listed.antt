@@ -3,19 +3,20 @@ use Rattle.std.specs.Prelude.{◌≡◌, ℕ, ◌<◌, ◌≤◌, Bool, true, fa
 use Rattle.net_model.specs.Answer.{bit_at}
 use Rattle.pair_scope.specs.declared.listed.Listed.{Listed}
 
--- The marked numbers are listed, of so many, with room for all.
+-- Each marked number is listed, each listed number has a place among the marks, and there is room to list all numbers.
 pub record AreListed (a : Listed) : Type 0 where
   pub within : All (λ n. n < length a.marks.items) a.numbers.items
   pub listed : (n : ℕ) → bit_at a.marks.items n ≡ true → Contains a.numbers.items n
   pub room : length a.marks.items ≤ vec_capacity a.numbers
 
--- There is a mark for each number below a count, which is the test's answer, and this is the list, with room for all numbers.
+-- There is a mark for each number below `count`, set if the number passes the test, and the list is this one, with room
+-- for `count` numbers.
 pub record IsListed (count : ℕ) (test : ℕ → Bool) (list : List ℕ) (a : Listed) : Type 0 where
   pub whole : length a.marks.items ≡ count
   pub marks : (n : ℕ) → n < count → bit_at a.marks.items n ≡ test n
   pub numbers : a.numbers.items ≡ list
   pub room : count ≤ vec_capacity a.numbers
 
--- None is marked.
+-- There are marks for the numbers below `count`, and none is marked or listed.
 abbrev pub IsBlank : ℕ → Listed → Type 0
 IsBlank count a = IsListed count (λ n. false) [] a

@@ -8,7 +8,8 @@ use Rattle.net_model.specs.Wiring.{Wiring, IsWiring}
 use Rattle.event_queue.specs.Pending.{is_pending}
 use Rattle.pair_scope.specs.declared.places.LinePlaces.{LinePlaces}
 
--- The lines are the sources and after them the gates in the wiring's order, and each has its place.
+-- The wiring is the circuit's, `lines` has the sources and after them the gates in the wiring's order, and `places` has
+-- the place of each line.
 pub record ArePlacesOf (c : Circuit) (wiring : Wiring) (lines places : List ℕ) : Type 0 where
   pub wired : IsWiring c wiring
   pub are : lines ≡ range_with_len 0 c.sources ++ wiring.order
@@ -22,25 +23,26 @@ ArePlaced a = ArePlacesOf a.circuit.now a.wiring.now a.lines.items a.places.item
 abbrev pub from_end : ℕ → ℕ → ℕ
 from_end count place = count - suc place
 
--- The first line that a fault changes waits too, and no other.
+-- The places that waited still do, and so does that of the first line that the fault changes, if it changes one. No
+-- others wait.
 pub record HasBegun (fault : Fault) (lines places : List ℕ) (old new : List Bool) : Type 0 where
   pub kept : (place : ℕ) → is_pending old place ≡ true → is_pending new place ≡ true
   pub here : (line : ℕ) → first_changed fault ≡ Some line → is_pending new (slice_index places line) ≡ true
   pub only : (place : ℕ) → is_pending new place ≡ true → (is_pending old place ≡ true) ⊎ (first_changed fault ≡ Some (slice_index lines place))
 
--- The readers of a line wait too, and no others.
+-- The places that waited still do, and so do those of the readers of the line. No others wait.
 pub record AreWokenFrom (c : Circuit) (line : ℕ) (lines places : List ℕ) (old new : List Bool) : Type 0 where
   pub kept : (place : ℕ) → is_pending old place ≡ true → is_pending new place ≡ true
   pub here : (reader : ℕ) → Feeds c line reader → is_pending new (slice_index places reader) ≡ true
   pub only : (place : ℕ) → is_pending new place ≡ true → (is_pending old place ≡ true) ⊎ ((place < line_count c) × Feeds c line (slice_index lines place))
 
--- These lines wait too, by their places from the end, and no others.
+-- The places that waited still do, and so do those of these lines, counted from the end. No others wait.
 pub record AreWokenBack (these : ℕ → Type 0) (count : ℕ) (places : List ℕ) (old new : List Bool) : Type 0 where
   pub kept : (place : ℕ) → is_pending old place ≡ true → is_pending new place ≡ true
   pub here : (line : ℕ) → these line → is_pending new (from_end count (slice_index places line)) ≡ true
   pub only : (place : ℕ) → is_pending new place ≡ true → (is_pending old place ≡ true) ⊎ ((line : ℕ) × these line × (place ≡ from_end count (slice_index places line)))
 
--- The line is shown by one of these positions.
+-- One of these positions shows the line.
 abbrev pub IsShownBy : Circuit → List ℕ → ℕ → Type 0
 IsShownBy c positions line = (at : ℕ) × Contains positions at × (slice_index c.positions at ≡ line)
 

@@ -1,4 +1,4 @@
--- What the fields of a `PairScope` show, and what is true of them.
+-- What the fields of a `PairScope` mean, and what holds of them.
 use Rattle.std.specs.Prelude.{◌≡◌, length, filter}
 use Rattle.net_model.specs.Circuit.{line_count}
 use Rattle.net_model.specs.Fault.{IsFaultOf}

@@ -1,4 +1,4 @@
-//! The scope of a pair of faults by lists, in space that is kept from pair to pair.
+//! The scope of a pair of faults as lists, in memory that is reused from pair to pair.
 #![tactic(auto)]
 
 mod listed;

@@ -1,4 +1,4 @@
-//! Numbers that are marked, with a list of them.
+//! Marked numbers, with a list of them.
 
 ghost use Rattle.std.specs.Prelude.{◌≡◌, ◌<◌, ◌^◌, ◌++◌, ◌∷◌, ℕ, [], true, false, All, Contains, IfOk, filter, length, slice_set, vec_capacity};
 ghost use Rattle.std.specs.List.{range_with_len};
@@ -17,7 +17,7 @@ pub(crate) struct Listed {
 }
 
 impl Listed {
-    /// None of the numbers below a count is marked. No later call takes memory.
+    /// Returns marks for the numbers below `count`, none of them marked. No later call allocates memory.
     pub(crate) fn none(alloc: Global, count: usize) -> Result<Listed, AllocError>
         ensures { IfOk result (IsBlank count) }
     {
@@ -27,7 +27,7 @@ impl Listed {
         })
     }
 
-    /// Marks a number that isn't marked.
+    /// Marks `number`, which isn't marked yet, and appends it to the list.
     pub(crate) fn push(&mut self, number: u32)
         requires inside { number < length self.old.marks.items }
         requires room { length self.old.numbers.items < vec_capacity self.old.numbers }
@@ -39,7 +39,7 @@ impl Listed {
         self.numbers.push_reserved(number);
     }
 
-    /// Takes all marks away. Only numbers that are marked are touched.
+    /// Removes all marks. It touches only numbers that are marked.
     pub(crate) fn clear(&mut self)
         requires { AreListed self.old }
         ensures { (count : ℕ) → count ≡ length self.old.marks.items → IsBlank count self.new }
@@ -49,7 +49,7 @@ impl Listed {
         }
     }
 
-    /// Marks the numbers that wait, where none is marked yet, and takes them out of the queue: they are listed ascending.
+    /// Moves the numbers that wait in `queue` into these marks, which are blank before. They are listed ascending.
     pub(crate) fn drain(&mut self, queue: &mut NumberQueue)
         requires blank { IsBlank (length queue.old) self.old }
         requires few { length queue.old < 2 ^ 32 }

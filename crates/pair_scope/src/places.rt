@@ -1,4 +1,4 @@
-//! The lines of a circuit in an order, and the place of each.
+//! All lines of a circuit in an evaluation order, the place of each, and which lines are made to wait.
 
 ghost use Rattle.std.specs.Prelude.{◌≡◌, ◌≢◌, ◌<◌, ◌+◌, ◌^◌, ◌++◌, ℕ, All, Contains, IfOk, length, slice_index};
 ghost use Rattle.std.specs.List.{range_with_len};
@@ -11,7 +11,8 @@ use event_queue::NumberQueue;
 use net_model::{Circuit, Fault, Wiring, first_changed};
 use std::alloc::{AllocError, Global};
 
-/// The lines of a circuit, first the sources and then the gates in an order, and the place of each line among them.
+/// The lines of a circuit, first the sources and then the gates in an evaluation order, and the place of each line
+/// among them.
 #[derive(Drop)]
 pub(crate) struct LinePlaces<'a> {
     pub(crate) circuit: &'a Circuit,
@@ -21,7 +22,7 @@ pub(crate) struct LinePlaces<'a> {
 }
 
 impl<'a> LinePlaces<'a> {
-    /// Those of a circuit.
+    /// Returns the lines of `circuit` with their places.
     pub(crate) fn of(alloc: Global, circuit: &'a Circuit) -> Result<LinePlaces<'a>, AllocError>
         ensures circuit { IfOk result (λ places. places.circuit.now ≡ circuit.now) }
         ensures placed { IfOk result ArePlaced }
@@ -37,7 +38,7 @@ impl<'a> LinePlaces<'a> {
         })
     }
 
-    /// Lets the first line wait that a fault changes, if it changes one.
+    /// Makes the first line that `fault` changes wait in `queue`, if it changes one.
     pub(crate) fn begin(&self, fault: Fault, queue: &mut NumberQueue)
         requires placed { ArePlaced self.now }
         requires fault { IsFaultOf self.now.circuit.now fault }
@@ -50,7 +51,7 @@ impl<'a> LinePlaces<'a> {
         }
     }
 
-    /// Lets the gates wait that read a line.
+    /// Makes the gates that read `line` wait in `queue`.
     pub(crate) fn wake_readers(&self, line: u32, queue: &mut NumberQueue)
         requires placed { ArePlaced self.now }
         requires line { line < line_count self.now.circuit.now }
@@ -64,7 +65,7 @@ impl<'a> LinePlaces<'a> {
         }
     }
 
-    /// The line at a place that is counted from the end.
+    /// Returns the line at a place that is counted from the end.
     pub(crate) fn line_back(&self, place: u32) -> u32
         requires { place < length self.now.lines.items }
         ensures { result ≡ slice_index self.now.lines.items (from_end (length self.now.lines.items) place) }
@@ -72,7 +73,7 @@ impl<'a> LinePlaces<'a> {
         self.lines[self.lines.len() - 1 - place as usize]
     }
 
-    /// The place of a line, counted from the end.
+    /// Returns the place of `line`, counted from the end.
     pub(crate) fn place_back(&self, line: u32) -> u32
         requires placed { ArePlaced self.now }
         requires line { line < line_count self.now.circuit.now }
@@ -81,7 +82,7 @@ impl<'a> LinePlaces<'a> {
         self.lines.len() as u32 - 1 - self.places[line as usize]
     }
 
-    /// Lets these lines wait, by their places from the end.
+    /// Makes each of `lines` wait in `queue`, at its place counted from the end.
     pub(crate) fn wake_back(&self, lines: &[u32], queue: &mut NumberQueue)
         requires placed { ArePlaced self.now }
         requires lines { All (λ line. line < line_count self.now.circuit.now) lines.now }
@@ -95,7 +96,7 @@ impl<'a> LinePlaces<'a> {
     }
 }
 
-// The sources, and after them the gates in an order.
+// Returns the sources ascending, and after them the gates in `order`.
 fn ordered_lines(alloc: Global, sources: u32, order: &[u32]) -> Result<Vec<u32>, AllocError>
     requires { sources + length order.now < 2 ^ 32 }
     ensures { IfOk result (λ lines. lines.items ≡ range_with_len 0 sources ++ order.now) }
@@ -108,7 +109,7 @@ fn ordered_lines(alloc: Global, sources: u32, order: &[u32]) -> Result<Vec<u32>,
     Ok(lines)
 }
 
-// The place of each of these lines.
+// Returns for each line its place in `lines`.
 fn places_of(alloc: Global, lines: &[u32]) -> Result<Vec<u32>, AllocError>
     requires few { length lines.now < 2 ^ 32 }
     requires inside { All (λ line. line < length lines.now) lines.now }

@@ -11,7 +11,7 @@ use crate::places::LinePlaces;
 use event_queue::NumberQueue;
 use net_model::{Fault, Site};
 
-/// Lets each reached position wait, where none waits yet and these are the split lines.
+/// Makes each reached position wait in `positions`, which is empty before; `split` has the split lines.
 pub(crate) fn wake_reached(
     places: &LinePlaces,
     f: Fault,
@@ -35,7 +35,7 @@ pub(crate) fn wake_reached(
     wake_site(g, positions);
 }
 
-// Lets the position wait at which a fault stands, if it stands at one.
+// Makes the position that `fault` sticks wait, if it sticks one.
 fn wake_site(fault: Fault, positions: &mut NumberQueue)
     requires { (at : ℕ) → is_some (stuck_position fault at) ≡ true → at < length positions.old }
     ensures room { length positions.new ≡ length positions.old }

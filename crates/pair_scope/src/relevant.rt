@@ -1,4 +1,4 @@
-//! The lines that the reached positions depend on.
+//! The lines that lead to reached positions, found from these positions back.
 
 ghost use Rattle.std.specs.Prelude.{◌≡◌, ◌<◌, ℕ, All, length};
 ghost use Rattle.net_model.specs.Circuit.{line_count, Feeds};
@@ -8,7 +8,8 @@ ghost use Rattle.pair_scope.specs.Places.{ArePlaced, AreWokenBack, IsShownBy, le
 use crate::places::LinePlaces;
 use event_queue::NumberQueue;
 
-/// Lets each line be found that is, or leads to, the line of one of these positions, where none is found yet.
+/// Inserts into `found`, which is empty before, each line that is, or leads to, the line of one of the positions
+/// `reached`.
 pub(crate) fn find_relevant(
     places: &LinePlaces,
     reached: &[u32],
@@ -36,7 +37,7 @@ pub(crate) fn find_relevant(
     }
 }
 
-// Lets the lines of these positions wait.
+// Makes the lines of the positions `reached` wait.
 fn wake_shown(places: &LinePlaces, reached: &[u32], back: &mut NumberQueue)
     requires placed { ArePlaced places.now }
     requires reached { All (λ at. at < length places.now.circuit.now.positions) reached.now }
@@ -50,7 +51,7 @@ fn wake_shown(places: &LinePlaces, reached: &[u32], back: &mut NumberQueue)
     }
 }
 
-// Lets the lines wait that a line's gate reads, if a gate drives it.
+// Makes the lines that the gate of `line` reads wait, if a gate drives it.
 fn wake_pins(places: &LinePlaces, line: u32, back: &mut NumberQueue)
     requires placed { ArePlaced places.now }
     requires line { line < line_count places.now.circuit.now }

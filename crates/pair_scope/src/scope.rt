@@ -17,9 +17,9 @@ use net_model::{Circuit, Fault};
 use std::alloc::{AllocError, Global};
 use std::marker::Model;
 
-/// The scope of a pair of faults of a circuit, in space that is kept from pair to pair. A line is split where one of the
-/// faults reaches it, and a position is reached where it shows a split line or is the site of one of the faults. The lines
-/// of reached positions are relevant, and so are all lines that lead to them.
+/// The scope of a pair of faults of a circuit, in memory that is reused from pair to pair. A line is split if one of
+/// the faults reaches it, and a position is reached if it shows a split line or is the site of one of the faults. The
+/// lines of reached positions are relevant, and so are all lines that lead to them.
 pub struct PairScope<'a> {
     places: LinePlaces<'a>,
     f: Fault,
@@ -43,7 +43,7 @@ impl<'a> Model for PairScope<'a> {
     ghost Value = { spec.PairScope };
 }
 
-// Written out, it is one step in the proof of each function that lets a scope go.
+// Written by hand, so that dropping a scope is one step in a proof.
 impl Drop for PairScope<'_> {
     fn drop(self) {
         let PairScope {
@@ -61,7 +61,7 @@ impl Drop for PairScope<'_> {
 }
 
 impl<'a> PairScope<'a> {
-    /// The scope of a circuit without faults, in which nothing is split, reached or relevant.
+    /// Returns the scope of `circuit` without faults: nothing is split, reached or relevant.
     pub fn new(alloc: Global, circuit: &'a Circuit) -> Result<PairScope<'a>, AllocError>
         ensures { IfOk result (λ scope. scope ≡ pair_scope circuit.now Free Free) }
     {
@@ -80,8 +80,8 @@ impl<'a> PairScope<'a> {
         })
     }
 
-    /// Puts two other faults in the place of those whose scope was shown. Only lines and positions are touched that are in
-    /// the scope of either pair. It takes no memory.
+    /// Replaces the two faults by `f` and `g`. It touches only lines and positions that are in the scope of the old or
+    /// the new faults, and allocates no memory.
     pub fn show(&mut self, f: Fault, g: Fault)
         requires first { IsFaultOf self.old.circuit f }
         requires second { IsFaultOf self.old.circuit g }
@@ -124,7 +124,7 @@ impl<'a> PairScope<'a> {
         self.g
     }
 
-    /// Whether a line is split.
+    /// Returns whether `line` is split.
     pub fn split(&self, line: u32) -> bool
         requires { line < line_count self.now.circuit }
         ensures { result ≡ is_split self.now.circuit self.now.f self.now.g line }
@@ -132,7 +132,7 @@ impl<'a> PairScope<'a> {
         self.split.marks[line as usize]
     }
 
-    /// Whether a line is relevant.
+    /// Returns whether `line` is relevant.
     pub fn relevant(&self, line: u32) -> bool
         requires { line < line_count self.now.circuit }
         ensures { result ≡ is_relevant self.now.circuit self.now.f self.now.g line }
@@ -140,7 +140,7 @@ impl<'a> PairScope<'a> {
         self.relevant.marks[line as usize]
     }
 
-    /// Whether a position is reached. The program goes through `reached_positions`: this is for tests and for callers
+    /// Returns whether `position` is reached. The program uses `reached_positions`; this is for tests and for callers
     /// from outside.
     pub fn reached(&self, position: u32) -> bool
         requires { position < length self.now.circuit.positions }
@@ -149,7 +149,7 @@ impl<'a> PairScope<'a> {
         self.reached.marks[position as usize]
     }
 
-    /// The split lines: the sources ascending, and after them the gates in an order.
+    /// Returns the split lines: the sources ascending, and after them the gates in an evaluation order.
     pub fn split_lines(&self) -> &[u32]
         ensures lines { AreSplitInOrder self.now.circuit self.now.f self.now.g result.now }
         ensures circuit { IsCircuit self.now.circuit }
@@ -157,7 +157,7 @@ impl<'a> PairScope<'a> {
         self.split.numbers.as_slice()
     }
 
-    /// The relevant lines, ascending.
+    /// Returns the relevant lines, ascending.
     pub fn relevant_lines(&self) -> &[u32]
         ensures lines { result.now ≡ relevant_lines self.now.circuit self.now.f self.now.g }
         ensures circuit { IsCircuit self.now.circuit }
@@ -165,7 +165,7 @@ impl<'a> PairScope<'a> {
         self.relevant.numbers.as_slice()
     }
 
-    /// The reached positions, ascending.
+    /// Returns the reached positions, ascending.
     pub fn reached_positions(&self) -> &[u32]
         ensures positions { result.now ≡ reached_positions self.now.circuit self.now.f self.now.g }
         ensures circuit { IsCircuit self.now.circuit }

@@ -1,4 +1,4 @@
-//! The lines that two faults can change.
+//! The split lines, found forward from the first lines that the faults change.
 
 ghost use Rattle.std.specs.Prelude.{◌≡◌, filter, length};
 ghost use Rattle.net_model.specs.Circuit.{line_count};
@@ -13,7 +13,7 @@ use crate::places::LinePlaces;
 use event_queue::NumberQueue;
 use net_model::Fault;
 
-/// Lists the split lines by their places, from those on that the faults change first.
+/// Marks the split lines in `split`, which is blank before, and lists them by their places.
 pub(crate) fn list_split(
     places: &LinePlaces,
     f: Fault,

@@ -19,7 +19,7 @@ use Rattle.pair_sets.proofs.SeenLemmas.{same_line_pairs, source_line_pairs}
 abbrev pub base_line : Circuit → List PairSet → ℕ → PairSet
 base_line c sets line = line_pairs c Free Free [] sets line
 
--- The sources and the first so many gates have their pairs.
+-- The sources and the first `i` gates have their pairs.
 pub record BaseSoFar (c : Circuit) (order : List ℕ) (i : ℕ) (sets : List PairSet) : Type 0 where
   pub whole : length sets ≡ line_count c
   pub sources : (line : ℕ) → line < c.sources → set_at sets line ≡ base_line c sets line
@@ -39,7 +39,7 @@ module _ (c : Circuit) (w : IsCircuit c) (order : List ℕ) (is : IsOrder c orde
     gates = λ line m. absurd (omega (arith, m.1));
   }
 
-  -- the gates before a place don't read the line of its gate
+  -- no gate before place `i` reads the line of the gate there
   reads_earlier : (i line read : ℕ) → i < length order → Contains (take i order) line → Feeds c read line → read ≢ get_or order i 0
   reads_earlier i line read h (k, below, at) m same =
       let before : k < i = omega (arith, below, length-take i order) in

@@ -32,7 +32,7 @@ module _ (c : Circuit) where
   unfolding reached_positions
   none_reached = filter_none (is_reached c Free Free) (range_with_len 0 (length c.positions)) (unreached c)
 
-  -- nothing is kept without faults
+  -- a blank tally is right without faults
   pub blank_tally : (tally : Tally) → IsTallyBlank tally → HasTallyPlaces (length c.positions) tally → IsTally c Free Free tally
   blank_tally tally blank places = record { reached = blank.reached ∙ sym none_reached; places = places }
 
@@ -48,7 +48,7 @@ module _ (c : Circuit) where
     ];
   }
 
-  -- of positions that aren't reached nothing is kept
+  -- nothing is kept of positions that aren't reached
   pub blank_but : (f g : Fault) (tally : Tally) (sets : List PairSet) → IsTally c f g tally → ArePairsShown c f g sets tally.shown → IsBlankBut tally.reached.items tally.shown
   blank_but f g tally sets are shown = record {
     within = subst (λ n. All (λ at. at < n) tally.reached.items) (sym are.places.whole) (reached_within c f g tally.reached.items are.reached);
@@ -62,7 +62,7 @@ module _ (c : Circuit) where
 
 -- ---- pairs
 
--- where split lines get the pairs of the base and all others keep theirs, all have those of the base
+-- if split lines get the pairs of the base and all others keep theirs, all lines have those of the base
 pub back_to_base : (c : Circuit) → IsCircuit c → (f g : Fault) (marks : List Bool) (old base new : List PairSet) → AreMarksOfTest (is_split c f g) (line_count c) marks
     → ArePairSets c f g [] old → ArePairSets c Free Free [] base → length new ≡ length old
     → ((line : ℕ) → bit_at marks line ≡ true → set_at new line ≡ set_at base line) → ((line : ℕ) → set_at old line ≡ set_at base line → set_at new line ≡ set_at base line) → new ≡ base
@@ -76,13 +76,13 @@ back_to_base c w f g marks old base new are right free whole here kept =
 -- ---- levels
 
 module _ (c : Circuit) (f g : Fault) (room : ℕ) where
-  -- the pairs of no fixed source are a level where there is room for all changes
+  -- the pairs without a fixed source are a level if there is room for all changes
   pub lowest_level : (levels : List Level) (changes : List Change) (sets : List PairSet) → levels ≡ [] → changes ≡ [] → ArePairSets c f g [] sets → 4 * line_count c ≤ room → AreCubeLevels c f g room (reverse levels) changes sets
   lowest_level levels changes sets none no_changes right enough =
       subst (λ xs. AreCubeLevels c f g room (reverse xs) changes sets) (sym none)
       (no_changes, record { right = right; room_left = omega (arith, enough, few_pairs sets, right.whole, ap length no_changes) })
 
-  -- where no source is fixed there are no levels, and no changes
+  -- if no source is fixed, there are no levels and no changes
   pub unfixed : (levels : List Level) (changes : List Change) (sets : List PairSet) → AreCubeLevels c f g room levels changes sets → cube_of levels ≡ [] → (levels ≡ []) × (changes ≡ [])
   unfixed [] changes sets are e = (refl, are.0)
   unfixed (level ∷ levels) changes sets are e = absurd (omega (arith, ap length e))

@@ -16,13 +16,13 @@ module _ {X : Type 0} (test : X → Bool) (xs : List X) (i : ℕ) (was : X) (ins
   counted_here : cond (test (get_or xs i was)) 1 0 ≡ down
   counted_here = ap (λ x. cond (test x) 1 0) (sym is) ∙ sym (byte_is (test was)) ∙ sym one
 
-  -- the element that stands at a place is counted
+  -- the element at the place is counted
   pub counted_less : down ≤ count_by test xs
   counted_less =
       let part : cond (test (get_or xs i was)) 1 0 ≤ count_by test xs = get_or-le-sum_by (λ x. cond (test x) 1 0) xs i was inside in
       omega (arith, part, counted_here)
 
-  -- and where another takes its place, that one is counted for it
+  -- if another element takes its place, that one is counted instead
   pub counted_set : (new : X) {up : ℕ} → up ≡ bool_byte (test new) → count_by test (set xs i new) ≡ count_by test xs - down + up
   counted_set new {up} more =
       let changed : count_by test (set xs i new) + cond (test (get_or xs i was)) 1 0 ≡ count_by test xs + cond (test new) 1 0 = sum_by-set (λ x. cond (test x) 1 0) xs i new was inside in

@@ -85,7 +85,7 @@ module _ (c : Circuit) (f g : Fault) (cube : Cube) (v x y : List Bool) (sets : L
     pub covered : (line : ℕ) → line < line_count c → IsCovered line
     covered line l = covered_below (suc (w.acyclic.rank line)) line (omega arith) l
 
-    -- So do those of the observed positions.
+    -- The sets of the observed positions cover the real pairs too.
     pub covered_position : (at : ℕ) → at < length c.positions → has_pair (position_pairs c f g sets at) (bit_at (shown_bits c f x) at) (bit_at (shown_bits c g y) at) ≡ true
     unfolding position_pairs
     covered_position at h =

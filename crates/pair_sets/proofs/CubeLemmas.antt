@@ -37,7 +37,7 @@ unfolding source_of
 sources_below n [] once q t = cc
 sources_below n (fixed ∷ cube) once q t = one_of n fixed.0 (map source_of cube) once.0 (sources_below n cube once.2) q t
 
--- there are fewer fixed sources than sources where one is free
+-- if a source is free, there are fewer fixed sources than sources
 pub few_fixed : (n : ℕ) (cube : Cube) (source : ℕ) → FixesOnce n cube → source < n → fixed_bit cube source ≡ None → length cube < n
 unfolding IsDistinct
 few_fixed n cube source once inside free =
@@ -56,7 +56,7 @@ set_apart v source bit (fixed ∷ cube) apart inside =
       set_apart v source bit cube apart.1 inside.1,
     )
 
--- a vector of a cube is one of the cube with a free source fixed, once it has the bit there
+-- a vector of a cube lies in the cube with a free source fixed, once its bit there is set
 pub set_fixed : (v : List Bool) (source : ℕ) (bit : Bool) (cube : Cube) → source < length v → fixed_bit cube source ≡ None → InCube cube v → InCube ((source, bit) ∷ cube) (slice_set v source bit)
 set_fixed v source bit cube h free inside = (get_or-set_same v source bit false h, set_apart v source bit cube (free_apart cube source free) inside)
 

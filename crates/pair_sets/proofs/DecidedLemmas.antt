@@ -1,4 +1,5 @@
--- Where all relevant sources are fixed, each relevant line has one pair, so no cube is undecided. And the pairs of a cube are one.
+-- If all relevant sources are fixed, each relevant line has one pair, so no cube is undecided. A cube has only one list
+-- of pair sets.
 use Rattle.std.proofs.Common.{◌≡◌, ℕ, zero, suc, ◌<◌, refl, sym, ◌∙◌, ap, arith, subst, get_or, length}
 use Rattle.std.specs.Prelude.{Bool, true, List, [], Option, None, Some, Contains, IsTrue, IsSome}
 use Rattle.std.specs.Option.{option_map_or}
@@ -68,7 +69,7 @@ fixed_decided c f g cube w fixed state =
     let found = undecided_mixed c f g state.sets state.is in
     not_mixed (position_pairs c f g state.sets found.0) (single_position c f g cube state.sets w state.are fixed found.0 found.1) found.2
 
--- ---- the pairs of a cube are one
+-- ---- a cube has only one list of pair sets
 
 module _ (c : Circuit) (f g : Fault) (cube : Cube) (x y : List PairSet) (w : IsCircuit c) (a : ArePairSets c f g cube x) (b : ArePairSets c f g cube y) where
   same_below : (n line : ℕ) → w.acyclic.rank line < n → line < line_count c → set_at x line ≡ set_at y line

@@ -15,7 +15,7 @@ use Rattle.pair_sets.proofs.GateLemmas.{free_is}
 not_first : (f : Fault) (line : ℕ) → is_first_changed f line ≡ false → first_changed f ≡ Some line → ⊥
 not_first f line other e = true_false (is_first_changed f line) (ap (λ o. option_map_or (λ from. from == line) o false) e ∙ eq-eqb line line refl) other
 
--- The two faults stick nothing at a line.
+-- The two faults stick neither the stem of the line nor a pin of its gate.
 pub record StickNothing (f g : Fault) (line : ℕ) : Type 0 where
   pub first_stem : stuck_stem f line ≡ None
   pub second_stem : stuck_stem g line ≡ None

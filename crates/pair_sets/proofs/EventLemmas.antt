@@ -21,7 +21,7 @@ use Rattle.pair_sets.proofs.SeenLemmas.{same_line_pairs, fewer_line_pairs}
 
 -- ---- gates that wait
 
--- a gate that reads a line whose readers wait is none that doesn't
+-- no reader of a line whose readers wait is idle
 pub woken_waits : (c : Circuit) → IsCircuit c → (wiring : Wiring) → IsWiring c wiring → (line : ℕ) (more : List Bool)
     → ReadersWait c wiring.order line more → (l : ℕ) → Feeds c line l → IsIdle wiring.order more l → ⊥
 woken_waits c w wiring wired line more woken l feeds idle =
@@ -32,7 +32,7 @@ woken_waits c w wiring wired line more woken l feeds idle =
     let there : get_or order place 0 ≡ l = get_or_default order place 0 l found.1 ∙ found.2 in
     true_false (is_pending more place) (woken place found.1 (subst (Feeds c line) (sym there) feeds)) (idle place found.1 there)
 
--- where gates that waited still do, one that doesn't wait didn't before
+-- if the gates that waited still do, an idle gate was idle before
 pub idle_before : (order : List ℕ) (queue more : List Bool) → ((place : ℕ) → is_pending queue place ≡ true → is_pending more place ≡ true) → (l : ℕ) → IsIdle order more l → IsIdle order queue l
 idle_before order queue more kept l idle = λ place h e. false_from_ne_true (is_pending queue place) (λ t. true_false (is_pending more place) (kept place t) (idle place h e))
 
@@ -41,7 +41,7 @@ pub readers_within : (c : Circuit) (wiring : Wiring) → IsWiring c wiring → (
 readers_within c wiring wired line readers are = λ k d h.
     wired.readers.below line (get_or readers k d) (subst (λ us. Contains us (get_or readers k d)) are (Contains-get_or readers k d h))
 
--- where they are let wait
+-- if the readers of a line are added to the queue, they are woken
 pub readers_woken : (c : Circuit) (wiring : Wiring) → IsWiring c wiring → (line : ℕ) (readers : List ℕ) → readers ≡ get_or wiring.readers line [] → (queue more : List Bool)
     → ((place : ℕ) → is_pending queue place ≡ true → is_pending more place ≡ true) → ((place : ℕ) → is_pending more place ≡ true → (is_pending queue place ≡ true) ⊎ Contains readers place)
     → ((place : ℕ) → Contains readers place → is_pending more place ≡ true) → AreWoken c wiring.order line queue more
@@ -100,7 +100,7 @@ module _ (c : Circuit) (f g : Fault) (w : IsCircuit c) (sets : List PairSet) (li
       omega arith
 
   module _ (wiring : Wiring) (wired : IsWiring c wiring) (queue more : List Bool) where
-    -- what a line that doesn't wait reads has stayed, or is the line itself
+    -- what an idle line reads has stayed, or is the line itself
     reads_stay : WakesReaders c wiring.order line (set_at sets line) pairs queue more → (l : ℕ) → IsIdle wiring.order more l → (read : ℕ) → Feeds c read l → set_at sets read ≡ set_at (set sets line pairs) read
     reads_stay wakes l idle read m = elim (cases_eq read line) [
       | inl own ↦ elim wakes.readers [
@@ -131,7 +131,7 @@ module _ (c : Circuit) (f g : Fault) (w : IsCircuit c) (sets : List PairSet) (li
 
 -- ---- along the order
 
--- the line whose gate stands at a place
+-- the line of the gate at a place
 pub ordered_line : (c : Circuit) (wiring : Wiring) → IsWiring c wiring → (order : List ℕ) → order ≡ wiring.order → (place : ℕ) → place < length wiring.order
     → (c.sources ≤ get_or order place 0) × (get_or order place 0 < line_count c) × (get_or order place 0 ≡ get_or wiring.order place 0)
 ordered_line c wiring wired order e place h =
@@ -139,12 +139,12 @@ ordered_line c wiring wired order e place h =
     let range = order_only c (fits_from c wired.circuit) wiring.order wired.order place h in
     (subst (λ l. c.sources ≤ l) (sym is) range.0, subst (λ l. l < line_count c) (sym is) range.1, is)
 
--- that of a gate that waits
+-- the line of a gate that waits
 pub waiting_line : (c : Circuit) (wiring : Wiring) → IsWiring c wiring → (order : List ℕ) → order ≡ wiring.order → (queue : List Bool) → length queue ≡ length wiring.order → (place : ℕ) → is_pending queue place ≡ true
     → (c.sources ≤ get_or order place 0) × (get_or order place 0 < line_count c) × (get_or order place 0 ≡ get_or wiring.order place 0)
 waiting_line c wiring wired order e queue room place waits = ordered_line c wiring wired order e place (omega (arith, pending_within queue place waits, room))
 
--- once a gate is taken and the readers of its line are let wait, no place waits up to its own
+-- once a gate is taken and the readers of its line wait, no place up to its own waits
 pub none_before : (c : Circuit) (wiring : Wiring) → IsWiring c wiring → (place line : ℕ) (queue taken more : List Bool) → place < length wiring.order → line ≡ get_or wiring.order place 0
     → IsLowest queue taken place → WakesOnly c wiring.order line taken more → (p : ℕ) → p < place + 1 → is_pending more p ≡ false
 none_before c wiring wired place line queue taken more within at lowest wakes p h =

@@ -85,7 +85,7 @@ module _ (value : List Bool → Bool) (sets : List PairSet) where
   inverting true = turned_pairs
   inverting false = refl
 
--- a gate's pairs are those of its operation, and the opposite ones where it inverts
+-- a gate's pairs are those of its operation, or the opposite ones if it inverts
 pub by_operation : (kind : Kind) (sets : List PairSet) → gate_pairs kind sets ≡ (if inverts kind then gate_pairs Not (operation_pairs (operation_of kind) sets ∷ []) else operation_pairs (operation_of kind) sets)
 by_operation kind sets = inverting (operation_value (operation_of kind)) sets (inverts kind)
 
@@ -195,7 +195,8 @@ unit_is AllOf = refl
 unit_is AnyOf = refl
 unit_is OddOf = refl
 
--- whether a multiplexer has a pair, by the pairs of its first pin; each data pin is taken by itself, also where both read one line
+-- whether a multiplexer has a pair, by the pairs of its first pin; the data pins are independent, even if both read one
+-- line
 abbrev pub chooses : PairSet → PairSet → PairSet → Bool → Bool → Bool
 chooses s low high a b =
     ((((s.both_zero && has_pair low a b) && some_pair high) || ((s.zero_one && has_first low a) && has_second high b)) || ((s.one_zero && has_first high a) && has_second low b)) || ((s.both_one && some_pair low) && has_pair high a b)

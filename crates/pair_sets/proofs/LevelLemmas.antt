@@ -1,4 +1,4 @@
--- The levels of a simulation: the pairs of a cube, and those that come back where its last source is freed.
+-- The levels of a simulation: the pairs of a cube, and those that come back if its last source is freed.
 use Rattle.std.proofs.Common.{◌≡◌, ◌≢◌, ℕ, ◌<◌, ◌≤◌, List, [], ◌∷◌, ◌++◌, length, length-append, get_or, set, take, drop, eq-eqb, refl, sym, ◌∙◌, ap, subst, arith, inl, inr}
 use Rattle.std.specs.Prelude.{Bool, true, false, Option, None, Some, option_map, find, cond, ◌==◌, All, Contains, filter, reverse, vec_capacity, if◌then◌else◌}
 use Rattle.std.specs.Option.{option_map_or}
@@ -54,7 +54,7 @@ module _ (c : Circuit) (f g : Fault) (cube : Cube) (sets : List PairSet) (are : 
       subst (IsWithin (forced_pairs (stuck_stem f source) (stuck_stem g source) (fixed_pairs bit))) (sym was)
       (within_forced (stuck_stem f source) (stuck_stem g source) (fixed_pairs bit) free_pairs (fixed_is_free bit))
 
-  -- the pairs of the cube in which it is fixed
+  -- if the gates follow a source that is fixed, the pairs are those of the cube with that source fixed
   pub pairs_fixed : (bit : Bool) (pairs : PairSet) (new : List PairSet) → pairs ≡ forced_pairs (stuck_stem f source) (stuck_stem g source) (fixed_pairs bit)
       → length new ≡ line_count c → ((s : ℕ) → s < c.sources → set_at new s ≡ set_at (set sets source pairs) s) → ((line : ℕ) → c.sources ≤ line → line < line_count c → set_at new line ≡ gate_line_pairs c f g new line)
       → ArePairSets c f g ((source, bit) ∷ cube) new
@@ -88,7 +88,7 @@ module _ (c : Circuit) (f g : Fault) (room : ℕ) where
   level_right [] changes sets are = are.1
   level_right (level ∷ levels) changes sets are = are.0
 
-  -- where all changes are taken back, the pairs are those of no fixed source
+  -- with all changes undone the pairs are those without a fixed source
   pub first_level : (levels : List Level) (changes : List Change) (sets : List PairSet) → AreCubeLevels c f g room levels changes sets → ArePairSets c f g [] (undone changes sets)
   first_level [] changes sets are = subst (λ xs. ArePairSets c f g [] (undone xs sets)) (sym are.0) are.1.right
   first_level (level ∷ levels) changes sets are =
@@ -113,7 +113,7 @@ module _ (c : Circuit) (f g : Fault) (room : ℕ) where
   levels_once [] changes sets are = tt
   levels_once (level ∷ levels) changes sets are = (are.1, are.2, levels_once levels (take level.start changes) (undone (drop level.start changes) sets) are.4)
 
-  -- there are fewer levels than sources where a source is free
+  -- if a source is free, there are fewer levels than sources
   pub levels_few : (levels : List Level) (changes : List Change) (sets : List PairSet) → AreCubeLevels c f g room levels changes sets → (source : ℕ) → source < c.sources → fixed_bit (cube_of levels) source ≡ None → length levels < c.sources
   levels_few levels changes sets are source inside free =
       omega (arith, few_fixed c.sources (cube_of levels) source (levels_once levels changes sets are) inside free, length-map {B = ℕ × Bool} levels (λ (level : Level). (level.source, level.bit)))

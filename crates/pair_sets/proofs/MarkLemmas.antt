@@ -41,7 +41,7 @@ module _ (marks : List Bool) (lines : List ℕ) (line : ℕ) (inside : line < le
     ]
   ]
 
-  -- how many lines aren't marked
+  -- a new mark leaves one line less without a mark
   pub unmarked_less : bit_at marks line ≡ false → count_by not (set marks line true) + 1 ≡ count_by not marks
   unmarked_less e =
       let counted = sum_by-set (λ (b : Bool). cond (not b) 1 0) marks line true false inside in

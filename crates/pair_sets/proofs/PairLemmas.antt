@@ -99,7 +99,7 @@ forced_is first second s p h =
 
 -- ---- functions of bits
 
--- what a function of bits has in both places
+-- the pair of a function's values of the first bits and of the second bits
 abbrev pub value_pair : (List Bool → Bool) → List Pair → Pair
 value_pair value ps = (value (map (λ p. p.0) ps), value (map (λ p. p.1) ps))
 

@@ -15,6 +15,6 @@ use Rattle.pair_sets.proofs.LevelLemmas.{right_of}
 pub line_in : (a : Inside) → ArePairSimFields a → (sim : PairSim) (line : ℕ) → pair_sim_of a ≡ sim → line < line_count sim.circuit → line < length a.trail.sets.items
 line_in a ready sim line view h = subst (λ n. line < n) (sym (right_of a ready).right.whole) (subst (λ (s : PairSim). line < line_count s.circuit) (sym view) h)
 
--- a part of a cube's pair sets is that of any list of them
+-- what `part` gives of the pair sets of a cube is what it gives of any list of them
 pub part_is : (c : Circuit) (f g : Fault) (cube : Cube) (part : List PairSet → PairSet) (pairs : PairSet) (sets : List PairSet) → IsCircuit c → IsPart c f g cube part pairs → ArePairSets c f g cube sets → pairs ≡ part sets
 part_is c f g cube part pairs sets w read are = read.is ∙ ap part (same_pair_sets c f g cube read.sets sets w read.are are)

@@ -47,7 +47,7 @@ module _ (f g : Fault) (sets : List PairSet) (line : ℕ) where
   seen_three (p ∷ q ∷ r ∷ []) e = refl
   seen_three (p ∷ q ∷ r ∷ (x ∷ xs)) e = absurd (omega arith)
 
-  -- one pin more before those that a fold has so far
+  -- a fold with one more pin before those that it has so far
   pub one_pin_more : (fold : Fold) (pins : List ℕ) (k : ℕ) (s so_far : PairSet) → k < length pins → s ≡ pin_set f g sets line k (get_or pins k 0)
       → so_far ≡ operation_pairs (Folded fold) (drop (k + 1) (seen_pairs f g sets line pins)) → operation_pairs (Folded fold) (s ∷ so_far ∷ []) ≡ operation_pairs (Folded fold) (drop k (seen_pairs f g sets line pins))
   one_pin_more fold pins k s so_far h is e =
@@ -111,7 +111,7 @@ gate_is_at c line above below =
     some_at (gate ∷ gates) zero h = (gate, refl)
     some_at (gate ∷ gates) (suc i) h = some_at gates i (omega arith)
 
--- a gate's pairs are no matter of the cube
+-- a gate's pairs don't depend on the cube
 pub any_cube : (c : Circuit) (f g : Fault) (cube other : Cube) (sets : List PairSet) (line : ℕ) → c.sources ≤ line → line < line_count c → line_pairs c f g cube sets line ≡ line_pairs c f g other sets line
 unfolding line_pairs
 any_cube c f g cube other sets line above below =

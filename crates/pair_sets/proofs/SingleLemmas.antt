@@ -1,4 +1,4 @@
--- Sets of one pair at most, and sets of several.
+-- Sets of at most one pair, and sets of several.
 use Rattle.std.proofs.Common.{◌≡◌, ℕ, suc, ◌<◌, refl, sym, ◌∙◌, ap, arith, get_or, length}
 use Rattle.std.specs.Prelude.{Bool, true, false, not, List, [], ◌∷◌, Option, ◌||◌, ◌&&◌}
 use Rattle.std.specs.Bool.{beq}
@@ -9,7 +9,7 @@ use Rattle.pair_sets.specs.PairSet.{PairSet, Pair, has_pair, same_pair, has_seve
 use Rattle.pair_sets.proofs.PairLemmas.{Has, same_pair_is, same_pair_same, forced_pair, forced_is, value_pair, values_are}
 use Rattle.pair_sets.proofs.GateLemmas.{every_bit, at_bit, implied, every_set, at_set}
 
--- the set has one pair at most
+-- the set has at most one pair
 abbrev pub IsSingle : PairSet → Type 0
 IsSingle s = (p q : Pair) → Has s p → Has s q → p ≡ q
 
@@ -85,7 +85,7 @@ mixed_several s e = rest_of (only_equal s || only_unequal s) (has_several s) e (
 pub not_mixed : (s : PairSet) → IsSingle s → (only_equal s || only_unequal s) ≡ false → ⊥
 not_mixed s single e = no_single s (mixed_several s e) single
 
--- ---- where a set is single
+-- ---- when a set is single
 
 pub single_fixed : (bit : Bool) → IsSingle (fixed_pairs bit)
 single_fixed true = single_passes (fixed_pairs true) refl
@@ -120,6 +120,6 @@ single_value value sets all p q h k =
     let two = values_are value sets q k in
     sym one.2 ∙ ap (value_pair value) (one_choice sets one.0 two.0 all one.1 two.1) ∙ two.2
 
--- a set that is forced has several pairs only where it had before
+-- a set with values put in has several pairs only if it had several before
 pub several_before : (first second : Option Bool) (s : PairSet) → has_several (forced_pairs first second s) ≡ true → has_several s ≡ true
 several_before first second s e = several_if (forced_pairs first second s) s (single_forced first second s) e

@@ -1,4 +1,5 @@
--- The pairs of two faults from those of the circuit without faults: they differ on split lines alone, and are there once no gate waits.
+-- The pairs of two faults, computed from those of the circuit without faults: they differ on split lines only, and are
+-- complete once no gate waits.
 use Rattle.std.proofs.Common.{◌≡◌, ◌≢◌, ℕ, zero, suc, ◌<◌, List, [], length, get_or, set, refl, sym, ◌∙◌, ap, subst, arith, inl, inr}
 use Rattle.std.specs.Prelude.{Bool, true, false, Option, None, Some, ◌==◌, ◌||◌}
 use Rattle.std.specs.Cmp.{both_ways}
@@ -36,7 +37,7 @@ module _ (c : Circuit) (f g : Fault) (sets : List PairSet) (line : ℕ) (nothing
       ap (gate_pairs gate.kind)
       (same_readings (pin_set f g sets line) (pin_set Free Free sets line) gate.pins (λ place read m. λ i. forced_pairs (nothing.first_pins place i) (nothing.second_pins place i) (set_at sets read)))
 
-  -- there a line has the pairs that it has without faults
+  -- a line at which the faults stick nothing has the pairs that it has without faults
   unstuck_line : line_pairs c f g [] sets line ≡ line_pairs c Free Free [] sets line
   unfolding line_pairs
   unstuck_line = λ i. forced_pairs (nothing.first_stem i) (nothing.second_stem i) (unstuck_driven (gate_at c line) i)
@@ -90,7 +91,7 @@ pub split_second : (c : Circuit) (f g : Fault) (line : ℕ) → is_first_changed
 unfolding is_split reaches_line
 split_second c f g line e = or_right (reaches_line c f line) (reaches_line c g line) (reached_first c line (first_changed g) e)
 
--- and so is a line whose gate reads one
+-- a line whose gate reads a split line is split
 split_onward : (c : Circuit) → IsCircuit c → (f g : Fault) (read line : ℕ) → Feeds c read line → is_split c f g read ≡ true → is_split c f g line ≡ true
 split_onward c w f g read line m e = by (is_split c f g line) refl
   where
@@ -98,10 +99,10 @@ split_onward c w f g read line m e = by (is_split c f g line) refl
     by true t = refl
     by false t = true_false (is_split c f g read) e ((split_is_closed c w.acyclic f g).onward read line m t)
 
--- ---- on the way
+-- ---- while gates wait
 
 module _ (c : Circuit) (w : IsCircuit c) (f g : Fault) (wiring : Wiring) (wired : IsWiring c wiring) (queue marks : List Bool) (sets : List PairSet) where
-  -- at first all lines but the first changed are right
+  -- at first all lines are right except the first changed ones
   pub spread_none : ArePairSets c Free Free [] sets → IsEmpty queue → ((line : ℕ) → bit_at marks line ≡ false)
       → IsSpread c f g wiring.order (λ l. is_first_changed f l || (is_first_changed g l || false)) queue marks sets
   spread_none are none unmarked = record {
@@ -199,14 +200,14 @@ module _ (c : Circuit) (w : IsCircuit c) (f g : Fault) (wiring : Wiring) (wired 
         | inr two ↦ marked_from (first_changed g) (marked_first g (λ l e. or_right (is_first_changed f l) (is_first_changed g l) e)) line two
       ]
 
-      -- where no gate waits, the split lines are marked, and no others
+      -- if no gate waits, exactly the split lines are marked
       pub spread_marks : length marks ≡ line_count c → AreMarksOfTest (is_split c f g) (line_count c) marks
       spread_marks whole = record {
         whole = whole;
         each = λ line h. both_ways (bit_at marks line) (is_split c f g line) (spread.split line) (marked_split line);
       }
 
-      -- and each line has its pairs
+      -- if no gate waits, each line has its pairs
       pub spread_sets : length sets ≡ line_count c → ArePairSets c f g [] sets
       spread_sets whole = record {
         whole = whole;

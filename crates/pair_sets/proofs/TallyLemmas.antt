@@ -30,20 +30,20 @@ module _ (c : Circuit) (f g : Fault) (sets shown : List PairSet) (at : ℕ) (pai
     | inr ne ↦ get_or-set_other shown at other pairs free_pairs ne ∙ was
   ]
 
--- where a position isn't reached, equal pairs are right
+-- if a position isn't reached, equal pairs are right
 pub shown_unreached : (c : Circuit) (f g : Fault) (sets shown : List PairSet) (at : ℕ) → is_reached c f g at ≡ false → get_or shown at free_pairs ≡ free_pairs → IsShownAt c f g sets shown at
 shown_unreached c f g sets shown at unreached free = free ∙ sym (ap (λ b. if b then position_pairs c f g sets at else free_pairs) unreached)
 
 -- ---- changes
 
--- lines that no change names have what they had
+-- a line that no change names has the pairs that it had
 unnamed_same : (changes : List Change) (sets : List PairSet) (line : ℕ) → All (λ change. change.line ≢ line) changes → set_at (undone changes sets) line ≡ set_at sets line
 unnamed_same [] sets line none = refl
 unnamed_same (change ∷ changes) sets line none =
     get_or-set_other (undone changes sets) change.line line change.was free_pairs (λ e. none 0 change (omega arith) (sym e))
     ∙ unnamed_same changes sets line (All-tail (λ (x : Change). x.line ≢ line) change changes none)
 
--- the changes from one of them on
+-- the changes starting at one of them
 pub all_from : (start : ℕ) (changes : List Change) → take (length changes - start) (drop start changes) ≡ drop start changes
 all_from start changes = take_all (length changes - start) (drop start changes) (omega (arith, length-drop start changes))
 
@@ -54,11 +54,11 @@ module _ (c : Circuit) (f g : Fault) where
   shown_same old new shown at same was = was ∙ ap (λ s. if is_reached c f g at then forced_pairs (stuck_position f at) (stuck_position g at) s else free_pairs) same
 
   module _ (old new shown : List PairSet) (changes : List Change) (are : ArePairsShown c f g old shown) (at : ℕ) (inside : at < length c.positions) (none : All (λ change. change.line ≢ get_or c.positions at 0) changes) where
-    -- where no change names its line a position shows what it showed before them
+    -- if no change names its line, a position shows what it showed before the changes
     pub shown_after : undone changes new ≡ old → IsShownAt c f g new shown at
     shown_after before = shown_same old new shown at (ap (λ sets. set_at sets (get_or c.positions at 0)) (sym before) ∙ unnamed_same changes new (get_or c.positions at 0) none) (are at inside)
 
-    -- and what it showed after them
+    -- if no change names its line, a position shows what it showed after the changes
     pub shown_before : new ≡ undone changes old → IsShownAt c f g new shown at
     shown_before back = shown_same old new shown at (sym (ap (λ sets. set_at sets (get_or c.positions at 0)) back ∙ unnamed_same changes old (get_or c.positions at 0) none)) (are at inside)
 
@@ -73,7 +73,7 @@ module _ (c : Circuit) (f g : Fault) where
       by true rest = ap (λ b. test (position_pairs c f g sets x) && b) rest
       by false rest = ap (λ b. b && list_all test (map (kept_pairs c f g sets) xs)) free ∙ rest
 
-  -- a test that equal pairs pass holds of all that is kept where it does of what the reached positions show
+  -- if equal pairs pass a test, all that is kept passes it exactly if what the reached positions show does
   pub all_of_shown : (test : PairSet → Bool) → test free_pairs ≡ true → (sets shown : List PairSet) → length shown ≡ length c.positions → ArePairsShown c f g sets shown
       → list_all test shown ≡ list_all (λ at. test (position_pairs c f g sets at)) (reached_positions c f g)
   unfolding reached_positions
@@ -95,7 +95,7 @@ none_found test (x ∷ xs) e = by (test x) e (none_found test xs)
     by true t rest = absurd (false≢true t)
     by false t rest = rest t
 
--- what is kept of the positions stands apart from the rest
+-- a tally stays right if only the pairs that positions keep change
 pub tally_kept : (c : Circuit) (f g : Fault) (old new : Tally) → IsTally c f g old → KeepsAll old new → IsTally c f g new
 tally_kept c f g old new are kept = record {
   reached = ap (λ v. v.items) kept.reached ∙ are.reached;

@@ -1,4 +1,4 @@
--- Changes of pairs, and how they are taken back.
+-- Changes of pairs, and how they are undone.
 use Rattle.std.proofs.Common.{◌≡◌, ℕ, zero, suc, ◌*◌, ◌<◌, ◌≤◌, List, [], ◌∷◌, ◌++◌, length, set, refl, sym, ◌∙◌, ap, arith, subst, append_assoc}
 use Rattle.std.specs.Prelude.{All, sum_by, vec_capacity}
 use Rattle.std.proofs.lemmas.List.{set-set, set-get_or, length-set}

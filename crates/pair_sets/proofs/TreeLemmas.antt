@@ -1,4 +1,4 @@
--- Trees: their tokens one after the other, two halves joined, and what the leaves say.
+-- Trees: their tokens one after another, two trees joined by a split, and what the leaves say.
 use Rattle.std.proofs.Common.{◌≡◌, ℕ, zero, suc, ◌+◌, ◌-◌, ◌^◌, ◌<◌, ◌≤◌, refl, sym, ◌∙◌, ap, subst, arith, length, take, inl, inr}
 use Rattle.std.specs.Prelude.{Bool, true, false, List, [], ◌∷◌, ◌++◌, fold, slice_get, Option, None, Some, ◌⊎◌, cond, Contains, ⊤}
 use Rattle.std.proofs.Math.Nat.{one-le-pow, two-pow-succ}
@@ -33,7 +33,7 @@ closed_after_open tokens = omega (arith, sum_by-cons (λ token. cond (is_closed 
 
 -- ---- token by token
 
--- the token there has the property at the first cube that waits for it
+-- the token at the place has the property at the first cube that waits for it
 abbrev HasAt : (Token → Cube → Type 0) → List Cube → List Token → ℕ → Type 0
 HasAt P waiting tokens at = (cube : Cube) × (slice_get (fold after_token waiting (take at tokens)) 0 ≡ Some cube) × P (token_at tokens at) cube
 
@@ -68,7 +68,7 @@ module _ (v : List Bool) where
   InSome [] = ⊥
   InSome (cube ∷ cubes) = InCube cube v ⊎ InSome cubes
 
-  -- and no two of them have it
+  -- no two of the cubes have the vector
   abbrev AreApart : List Cube → Type 0
   AreApart [] = ⊤
   AreApart (cube ∷ cubes) = (InCube cube v → InSome cubes → ⊥) × AreApart cubes
@@ -83,7 +83,7 @@ module _ (v : List Bool) where
   first_waits [] cube e i = let none : ◌≡◌ {A = Option Cube} None (Some cube) = e in cc
   first_waits (other ∷ waiting) cube e i = let first : ◌≡◌ {A = Option Cube} (Some other) (Some cube) = e in let same : cube ≡ other = cc in inl (subst (λ k. InCube k v) same i)
 
-  -- a cube that stands at a later token lies in one that waits
+  -- the cube of a later token lies in a cube that waits
   stood_at : (waiting : List Cube) (tokens : List Token) (at : ℕ) (cube : Cube) → slice_get (fold after_token waiting (take at tokens)) 0 ≡ Some cube → InCube cube v → InSome waiting
   stood_at waiting tokens zero cube e i = first_waits waiting cube e i
   stood_at waiting [] (suc at) cube e i = first_waits waiting cube e i
@@ -95,7 +95,7 @@ module _ (v : List Bool) where
   apart_after (cube ∷ waiting) Closed a = a.1
   apart_after (cube ∷ waiting) Rest a = a.1
 
-  -- what waits behind a leaf
+  -- after a leaf all cubes wait except the first
   behind_leaf : (cube : Cube) (waiting : List Cube) (token : Token) → is_leaf token ≡ true → after_token (cube ∷ waiting) token ≡ waiting
   behind_leaf cube waiting (Split source) leaf = cc
   behind_leaf cube waiting Closed leaf = refl
@@ -249,7 +249,7 @@ module _ (c : Circuit) (f g : Fault) where
   free_token Closed cube right = tt
   free_token Rest cube right = tt
 
-  -- a whole tree of tokens that are right
+  -- a whole tree of right tokens is a tree of the two faults
   pub tree_from : (tokens : List Token) → fold after_token ([] ∷ []) tokens ≡ [] → ((at : ℕ) → at < length tokens → (cube : Cube) × (cube_at tokens at ≡ Some cube) × IsRightAt c f g (token_at tokens at) cube) → IsTree c f g tokens
   tree_from tokens whole each = record {
     shape = record { whole = whole; free = λ at h. let here = each at h in (here.0, here.1, free_token (token_at tokens at) here.0 here.2) };
@@ -265,7 +265,7 @@ module _ (c : Circuit) (f g : Fault) where
   pub open_leaf : (cube : Cube) → IsSubtree c f g cube (Rest ∷ [])
   open_leaf cube = record { whole = λ waiting. refl; right = λ waiting. (tt, tt) }
 
-  -- a split, and the trees of its two halves
+  -- a split and the trees of its two halves are a tree of the cube
   pub split_tree : (cube : Cube) (source : ℕ) (zeros ones : List Token) → IsRightAt c f g (Split source) cube → IsSubtree c f g ((source, false) ∷ cube) zeros → IsSubtree c f g ((source, true) ∷ cube) ones → IsSubtree c f g cube (Split source ∷ zeros ++ ones)
   split_tree cube source zeros ones split low high = record {
     whole = λ waiting.

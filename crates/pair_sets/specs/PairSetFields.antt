@@ -1,4 +1,4 @@
--- What the digits of a `PairSet` show, and that nothing of it is lost.
+-- The set that the digits of a `PairSet` mean, and that the set gives the digits back.
 use Rattle.std.specs.Prelude.{◌≡◌, ℕ, zero, suc, ◌+◌, ◌*◌, ◌/◌, ◌%◌, ◌<◌, Bool, true, ◌==◌, ◌&&◌, cond}
 use Rattle.std.proofs.Common.{refl, arith, inl, inr}
 use Rattle.std.proofs.lemmas.Bool.{and_parts, cases_lt, eqb-true}
@@ -19,7 +19,7 @@ pair_set_of a = set_with_number a.digits
 abbrev pub fields_of : PairSet → Inside
 fields_of s = record { digits = number_of s }
 
--- a test passes each number below another
+-- whether the test passes each number below the other
 unfoldable passes_below : (ℕ → Bool) → ℕ → Bool
 passes_below test zero = true
 passes_below test (suc n) = test n && passes_below test n

@@ -1,4 +1,4 @@
--- What the fields of a `PairSim` show, and what is true of them.
+-- What the fields of a `PairSim` mean, and what holds of them.
 use Rattle.std.specs.Prelude.{◌≡◌, ℕ, ◌+◌, ◌*◌, ◌<◌, ◌≤◌, List, [], ◌∷◌, map, reverse, length, sum_by, take, drop, vec_capacity, All, None}
 use Rattle.net_model.specs.declared.fault.Fault.{Fault}
 use Rattle.net_model.specs.declared.fault.Fault.TheVariants.{Free}
@@ -16,19 +16,21 @@ use Rattle.pair_sets.specs.Tally.{IsTally, ArePairsShown}
 use Rattle.pair_sets.specs.Trail.{pairs_in_set, undone}
 use Rattle.pair_sets.specs.PairSim.{PairSim, pair_sim}
 
--- the fixed sources with their bits, the last level first
+-- the sources that the levels fix, with their bits, in the order of the levels
 abbrev pub cube_of : List Level → Cube
 cube_of levels = map (λ level. (level.source, level.bit)) levels
 
 abbrev pub pair_sim_of : Inside → PairSim
 pair_sim_of a = pair_sim a.pair.circuit.now a.pair.f a.pair.g (cube_of (reverse a.levels.items))
 
--- The pairs are those of the cube, with room for a change for each of them.
+-- The sets are those of the cube, and there is room for one more change for each pair in them.
 pub record IsLevelRight (c : Circuit) (f g : Fault) (cube : Cube) (room : ℕ) (changes : List Change) (sets : List PairSet) : Type 0 where
   pub right : ArePairSets c f g cube sets
   pub room_left : length changes + sum_by pairs_in_set sets ≤ room
 
--- The pairs are right, and so are those of each level further down, where the changes since its start are taken back. Each level fixes a source that was free, and there are no changes before the first.
+-- The levels, the last one first, fit the changes and the sets: the sets are those of the cube of all levels, and with
+-- the changes since the start of the last level undone they are those of the levels before it, and so on. Each level
+-- fixes a source that was free, and there are no changes before the first level.
 abbrev pub AreCubeLevels : Circuit → Fault → Fault → ℕ → List Level → List Change → List PairSet → Type 0
 AreCubeLevels c f g room [] changes sets = (changes ≡ []) × IsLevelRight c f g [] room changes sets
 AreCubeLevels c f g room (level ∷ levels) changes sets =

@@ -9,7 +9,7 @@ use crate::pair_set::PairSet;
 use net_model::{Circuit, Fault};
 use std::alloc::{AllocError, Global};
 
-/// The pairs of all lines without faults, under the cube of all vectors.
+/// Returns the pairs of each line without faults, under the cube of all vectors.
 pub(crate) fn base_pairs(alloc: Global, circuit: &Circuit) -> Result<Vec<PairSet>, AllocError>
     ensures { IfOk result (λ sets. ArePairSets circuit.now Free Free [] sets.items) }
 {

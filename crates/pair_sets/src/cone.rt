@@ -25,7 +25,7 @@ impl Model for Cone {
 }
 
 impl Cone {
-    /// None of so many lines is marked. No later call takes memory.
+    /// Returns marks for `lines` lines, none of them marked. No later call allocates memory.
     pub(crate) fn none(alloc: Global, lines: usize) -> Result<Cone, AllocError>
         ensures whole { IfOk result (λ cone. length cone ≡ lines) }
         ensures none { IfOk result (λ cone. (line : ℕ) → bit_at cone line ≡ false) }
@@ -36,7 +36,7 @@ impl Cone {
         })
     }
 
-    /// Whether a line is marked.
+    /// Returns whether `line` is marked.
     pub(crate) fn has(&self, line: u32) -> bool
         requires { line < length self.now }
         ensures { result ≡ bit_at self.now line }
@@ -44,7 +44,7 @@ impl Cone {
         self.marks[line as usize]
     }
 
-    /// The marked lines.
+    /// Returns the marked lines.
     pub(crate) fn lines(&self) -> &[u32]
         ensures within { All (λ line. line < length self.now) result.now }
         ensures marked { (line : ℕ) → Contains result.now line → bit_at self.now line ≡ true }
@@ -64,7 +64,7 @@ impl Cone {
         self.lines.push_reserved(line);
     }
 
-    /// Takes all marks away. Only lines that are marked are touched.
+    /// Removes all marks. It touches only lines that are marked.
     pub(crate) fn unmark_all(&mut self)
         ensures whole { length self.new ≡ length self.old }
         ensures none { (line : ℕ) → bit_at self.new line ≡ false }

@@ -1,5 +1,5 @@
-//! Changes are followed by events: only the readers of lines whose pairs change are evaluated, gate by gate in an
-//! order of the circuit.
+//! Event-driven simulation of pairs: after a change only gates that read a line whose pairs changed are evaluated, in
+//! an evaluation order of the circuit.
 
 ghost use Rattle.std.specs.Prelude.{◌≡◌, ℕ, ◌<◌, ◌≤◌, length, slice_set};
 ghost use Rattle.event_queue.specs.Pending.{IsEmpty};
@@ -16,7 +16,8 @@ use crate::trail::PairTrail;
 use event_queue::NumberQueue;
 use net_model::Wiring;
 
-/// Gives a source its pairs, which are among those that it had, and then each gate the pairs that follow.
+/// Sets the pairs of `source` to `pairs`, which are among those that it had, and then those of each gate to what its
+/// pins give.
 pub(crate) fn change_source(
     pair: &FaultPair,
     source: u32,
@@ -42,7 +43,7 @@ pub(crate) fn change_source(
     follow(pair, wiring, queue, trail);
 }
 
-// Gives a line its pairs, which are among those that it had. Where they change, its readers wait from now on.
+// Sets the pairs of `line` to `pairs`, which are among those that it had. If they change, its readers wait from now on.
 fn settle(
     pair: &FaultPair,
     wiring: &Wiring,
@@ -70,7 +71,7 @@ fn settle(
     queue.wake(wiring.readers(line));
 }
 
-// Settles gate by gate, until none waits.
+// Evaluates one waiting gate after the other, until none waits.
 fn follow(pair: &FaultPair, wiring: &Wiring, queue: &mut NumberQueue, trail: &mut PairTrail)
     requires wiring { IsWiring pair.now.circuit.now wiring.now }
     requires width { length trail.old.sets.items ≡ line_count pair.now.circuit.now }

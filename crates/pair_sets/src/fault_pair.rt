@@ -1,4 +1,5 @@
-//! Two faults of a circuit, and the pairs of values that they give pins, lines and positions.
+//! Two faults of a circuit, and the pairs of values that they give pins, lines and positions. Stuck values at the pins
+//! and the stem of a gate are looked up only if one of the faults begins at the gate's line.
 
 ghost use Rattle.std.specs.Prelude.{◌≡◌, ◌<◌, ◌≤◌, ◌^◌, [], All, IsTrue, length};
 ghost use Rattle.net_model.specs.declared.operation.Operation.TheVariants.{Folded, Chosen};
@@ -24,14 +25,15 @@ pub(crate) struct FaultPair<'a> {
 }
 
 impl<'a> FaultPair<'a> {
-    /// These pairs with the stuck value of a line's stem in each fault's place.
+    /// Returns `pairs` with the value at which each fault sticks the stem of `line`, if it does, put in that fault's
+    /// place.
     pub(crate) fn stem_pairs(&self, line: u32, pairs: PairSet) -> PairSet
         ensures { result ≡ forced_pairs (stuck_stem self.now.f line) (stuck_stem self.now.g line) pairs }
     {
         pairs.forced(stuck_stem(self.f, line), stuck_stem(self.g, line))
     }
 
-    /// What a pin of a line's gate sees of the line that it reads.
+    /// Returns the pairs that pin `pin` of the gate of `line` sees of line `read`.
     pub(crate) fn pin_pairs(&self, sets: &[PairSet], line: u32, pin: u32, read: u32) -> PairSet
         requires { read < length sets.now }
         ensures { result ≡ forced_pairs (stuck_pin self.now.f line pin) (stuck_pin self.now.g line pin) (set_at sets.now read) }
@@ -39,7 +41,7 @@ impl<'a> FaultPair<'a> {
         sets[read as usize].forced(stuck_pin(self.f, line, pin), stuck_pin(self.g, line, pin))
     }
 
-    /// What an observed position shows.
+    /// Returns the pairs that observed position `at` shows.
     pub(crate) fn position_pairs(&self, sets: &[PairSet], at: u32) -> PairSet
         requires width { length sets.now ≡ line_count self.now.circuit.now }
         requires position { at < length self.now.circuit.now.positions }
@@ -49,7 +51,7 @@ impl<'a> FaultPair<'a> {
         sets[line as usize].forced(stuck_position(self.f, at), stuck_position(self.g, at))
     }
 
-    /// The pairs of a line that a gate drives.
+    /// Returns the pairs of a line that a gate drives.
     pub(crate) fn line_pairs(&self, sets: &[PairSet], line: u32) -> PairSet
         requires gate { self.now.circuit.now.sources ≤ line }
         requires line { line < line_count self.now.circuit.now }
@@ -65,7 +67,7 @@ impl<'a> FaultPair<'a> {
         }
     }
 
-    /// The pairs of a line where all sources are free.
+    /// Returns the pairs of a line if all sources are free.
     pub(crate) fn free_line_pairs(&self, sets: &[PairSet], line: u32) -> PairSet
         requires line { line < line_count self.now.circuit.now }
         requires width { length sets.now ≡ line_count self.now.circuit.now }
@@ -78,7 +80,7 @@ impl<'a> FaultPair<'a> {
         }
     }
 
-    // Whether one of the faults sticks the line or a pin of its gate.
+    // Returns whether one of the faults sticks the stem of `line` or a pin of its gate.
     #[inline]
     fn begins_at(&self, line: u32) -> bool
         ensures { result ≡ begins_at self.now.f self.now.g line }
@@ -86,7 +88,7 @@ impl<'a> FaultPair<'a> {
         is_first_changed(self.f, line) || is_first_changed(self.g, line)
     }
 
-    // What a pin of a line's gate sees, where it is known whether a fault begins there.
+    // As `pin_pairs`; `begins` is whether a fault begins at `line`.
     #[inline]
     fn seen_pairs(&self, sets: &[PairSet], line: u32, pin: u32, read: u32, begins: bool) -> PairSet
         requires read { read < length sets.now }
@@ -100,7 +102,7 @@ impl<'a> FaultPair<'a> {
         }
     }
 
-    // The pairs that the gate of a line gives on what its pins see.
+    // Returns the pairs that `gate`, the gate of `line`, gives for what its pins see.
     fn gate_pairs(&self, sets: &[PairSet], line: u32, gate: &Gate, begins: bool) -> PairSet
         requires inside { All (λ pin. pin < length sets.now) gate.now.pins }
         requires few { length gate.now.pins < 2 ^ 32 }
@@ -120,7 +122,7 @@ impl<'a> FaultPair<'a> {
         }
     }
 
-    // The pairs of a fold of these pins.
+    // Returns the pairs of a fold of what `pins` see.
     #[inline]
     fn folded(&self, sets: &[PairSet], line: u32, pins: &[u32], fold: Fold, begins: bool) -> PairSet
         requires inside { All (λ pin. pin < length sets.now) pins.now }
@@ -137,7 +139,7 @@ impl<'a> FaultPair<'a> {
         pairs
     }
 
-    // The pairs of the choice that the first of three pins makes between the others.
+    // Returns the pairs of the choice that the first of three pins makes between the other two.
     fn chosen(&self, sets: &[PairSet], line: u32, pins: &[u32], begins: bool) -> PairSet
         requires inside { All (λ pin. pin < length sets.now) pins.now }
         requires three { length pins.now ≡ 3 }
@@ -151,7 +153,7 @@ impl<'a> FaultPair<'a> {
     }
 }
 
-// Whether the line is the first that a fault can change.
+// Returns whether `line` is the first line that `fault` can change.
 #[inline]
 fn is_first_changed(fault: Fault, line: u32) -> bool
     ensures { result ≡ is_first_changed fault line }

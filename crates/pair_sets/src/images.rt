@@ -1,5 +1,5 @@
-//! What gates make of sets of pairs, looked up: a set is the number of its four binary digits, and a row has the images
-//! of one set with each other.
+//! Tables of what gates make of sets of pairs. A set is numbered by its four binary digits, and each row has the images
+//! of one set with each of the sets.
 
 ghost use Rattle.net_model.specs.declared.operation.Fold.{Fold};
 ghost use Rattle.pair_sets.specs.Images.{AreImages};
@@ -27,7 +27,7 @@ pub(crate) static AND: [u8; 256] = [
     0, 1, 3, 3, 5, 5, 7, 7, 15, 15, 15, 15, 15, 15, 15, 15,
 ];
 
-/// Those of an OR.
+/// The images of an OR of two pins.
 #[rattlefmt::skip]
 pub(crate) static OR: [u8; 256] = [
     0, 0, 0, 0, 0, 0, 0, 0, 0, 0, 0, 0, 0, 0, 0, 0,
@@ -48,7 +48,7 @@ pub(crate) static OR: [u8; 256] = [
     0, 15, 10, 15, 12, 15, 14, 15, 8, 15, 10, 15, 12, 15, 14, 15,
 ];
 
-/// Those of an XOR.
+/// The images of an XOR of two pins.
 #[rattlefmt::skip]
 pub(crate) static XOR: [u8; 256] = [
     0, 0, 0, 0, 0, 0, 0, 0, 0, 0, 0, 0, 0, 0, 0, 0,
@@ -75,7 +75,7 @@ pub(crate) static NOT: [u8; 16] = [
     0, 8, 4, 12, 2, 10, 6, 14, 1, 9, 5, 13, 3, 11, 7, 15,
 ];
 
-/// The table of a fold, row by row: the image of the sets `s` and `t` stands at 16 times the number of `s` and that of `t`.
+/// Returns the table of a fold. The image of sets `s` and `t` is at 16 times the number of `s` plus that of `t`.
 #[inline]
 pub(crate) fn image_table(fold: Fold) -> &'static [u8]
     ensures { AreImages fold result.now }

@@ -12,17 +12,18 @@ pub fn all_same_is_closed()
     ensures { AllSameClosed }
 {}
 
-/// Every vector, as wide as the circuit, of a cube that is apart separates the faults, and differs at the position that is named.
+/// Each vector of an apart cube that is as wide as the circuit separates the faults, and their answers to it differ at
+/// the position that is named.
 pub fn apart_separates()
     ensures { ApartSeparates }
 {}
 
-/// Where all relevant sources are fixed, no cube is undecided.
+/// If all relevant sources are fixed, the cube isn't undecided.
 pub fn relevant_fixed_is_decided()
     ensures { FixedDecided }
 {}
 
-/// A cube has one state.
+/// A cube has at most one state.
 pub fn one_state()
     ensures { OneState }
 {}
@@ -37,12 +38,12 @@ pub fn leaves_cover_all()
     ensures { LeavesCover }
 {}
 
-/// Each leaf of a tree has a vector in its cube.
+/// The cube of each leaf of a tree has a vector.
 pub fn no_leaf_is_empty()
     ensures { NoLeafEmpty }
 {}
 
-/// No vector of the cube of a tree's closed leaf separates the faults.
+/// No vector of the cube of a closed leaf of a tree separates the faults.
 pub fn leaves_are_closed()
     ensures { LeavesClosed }
 {}
@@ -52,7 +53,8 @@ pub fn covering_is_equal()
     ensures { CoveringEqual }
 {}
 
-/// A limit of closed leaves is spent only where it is less than the number of vectors: any more leaves cover them all.
+/// A limit of closed leaves is spent only if it is less than the number of vectors: as many closed leaves as there are
+/// vectors leave none open.
 pub fn full_tree_is_covered()
     ensures { SpendingBounded }
 {}

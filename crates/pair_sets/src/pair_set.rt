@@ -1,4 +1,5 @@
-//! Sets of pairs of bits: the value of a line under one fault, and under another.
+//! `PairSet`, a set of pairs of bits in four binary digits, and what gates make of such sets. A pair has the value of a
+//! line under one fault and its value under another.
 
 ghost use Rattle.std.specs.Prelude.{◌≡◌, ◌∷◌, [], Some, None};
 ghost use Rattle.net_model.specs.declared.gate.Kind.TheVariants.{Not};
@@ -12,7 +13,7 @@ use std::marker::Model;
 /// A set of pairs of bits: whether each of the four is in it.
 #[derive(Clone, Copy, PartialEq, Eq)]
 pub struct PairSet {
-    // A binary digit for each pair, whose two bits are the number of the digit.
+    // A binary digit for each pair. The two bits of a pair, the first one the higher, are its digit's number.
     digits: u8,
 }
 
@@ -45,21 +46,21 @@ impl PairSet {
         }
     }
 
-    // The equal pairs of both values, as a free source has them.
+    // Returns the equal pairs of both values, which a free source has.
     pub(crate) fn free() -> PairSet
         ensures { result ≡ free_pairs }
     {
         PairSet { digits: 0b1001 }
     }
 
-    // The equal pair of one value, as a fixed source has it.
+    // Returns the equal pair of one value, which a fixed source has.
     pub(crate) fn fixed(bit: bool) -> PairSet
         ensures { result ≡ fixed_pairs bit }
     {
         PairSet::new(!bit, false, false, bit)
     }
 
-    // The pairs of a fold of no pins.
+    // Returns the pairs of a fold of no pins.
     #[inline]
     pub(crate) fn unit(fold: Fold) -> PairSet
         ensures { result ≡ operation_pairs (Folded fold) [] }
@@ -70,7 +71,7 @@ impl PairSet {
         }
     }
 
-    // The pairs of a fold of one pin, which sees this set, and of others, whose fold has the other set.
+    // Returns the pairs of a fold of two pins, which see `self` and `other`.
     #[inline]
     pub(crate) fn step(self, fold: Fold, other: PairSet) -> PairSet
         ensures { result ≡ operation_pairs (Folded fold) (self ∷ other ∷ []) }
@@ -81,7 +82,7 @@ impl PairSet {
         }
     }
 
-    // The pairs of a NOT whose pin sees this set.
+    // Returns the pairs of a NOT whose pin sees this set.
     #[inline]
     pub(crate) fn not(self) -> PairSet
         ensures { result ≡ gate_pairs Not (self ∷ []) }
@@ -91,7 +92,7 @@ impl PairSet {
         }
     }
 
-    // The pairs of a multiplexer whose first pin sees this set.
+    // Returns the pairs of a multiplexer whose three pins see `self`, `low` and `high`.
     pub(crate) fn chosen(self, low: PairSet, high: PairSet) -> PairSet
         ensures { result ≡ operation_pairs Chosen (self ∷ low ∷ high ∷ []) }
     {
@@ -103,7 +104,7 @@ impl PairSet {
         )
     }
 
-    // Whether such a multiplexer has the pair of these two bits.
+    // Returns whether such a multiplexer has the pair of `first` and `second`.
     fn chooses(self, low: PairSet, high: PairSet, first: bool, second: bool) -> bool
         ensures { result ≡ has_pair (operation_pairs Chosen (self ∷ low ∷ high ∷ [])) first second }
     {
@@ -113,7 +114,7 @@ impl PairSet {
             | (self.has(true, true) & low.some() & high.has(first, second))
     }
 
-    // Whether the set has a pair at all.
+    // Returns whether the set has a pair.
     #[inline]
     fn some(self) -> bool
         ensures { result ≡ some_pair self }
@@ -121,7 +122,7 @@ impl PairSet {
         self.digits != 0
     }
 
-    // Whether some pair has this bit in its first place.
+    // Returns whether some pair has `bit` in its first place.
     #[inline]
     fn has_first(self, bit: bool) -> bool
         ensures { result ≡ has_first self bit }
@@ -129,7 +130,7 @@ impl PairSet {
         self.has(bit, false) | self.has(bit, true)
     }
 
-    // Whether some pair has this bit in its second place.
+    // Returns whether some pair has `bit` in its second place.
     #[inline]
     fn has_second(self, bit: bool) -> bool
         ensures { result ≡ has_second self bit }
@@ -137,7 +138,7 @@ impl PairSet {
         self.has(false, bit) | self.has(true, bit)
     }
 
-    // The set with a value put in each pair's first place.
+    // Returns the set with `bit` put in the first place of each pair.
     fn with_first(self, bit: bool) -> PairSet
         ensures { result ≡ forced_pairs (Some bit) None self }
     {
@@ -145,7 +146,7 @@ impl PairSet {
         PairSet::new(!bit & zero, !bit & one, bit & zero, bit & one)
     }
 
-    // The set with a value put in each pair's second place.
+    // Returns the set with `bit` put in the second place of each pair.
     fn with_second(self, bit: bool) -> PairSet
         ensures { result ≡ forced_pairs None (Some bit) self }
     {
@@ -153,7 +154,7 @@ impl PairSet {
         PairSet::new(!bit & zero, bit & zero, !bit & one, bit & one)
     }
 
-    // The set with a value put in each pair's first place, where there is one to put.
+    // Returns the set with the value of `first`, if there is one, put in the first place of each pair.
     #[inline]
     fn first_forced(self, first: Option<bool>) -> PairSet
         ensures { result ≡ forced_pairs first None self }
@@ -164,7 +165,8 @@ impl PairSet {
         }
     }
 
-    // The set with a value put in each pair's first place and in its second, where there is one to put.
+    // Returns the set with the value of `first`, if there is one, put in the first place of each pair, and that of
+    // `second` in the second place.
     pub(crate) fn forced(self, first: Option<bool>, second: Option<bool>) -> PairSet
         ensures { result ≡ forced_pairs first second self }
     {
@@ -175,7 +177,7 @@ impl PairSet {
         }
     }
 
-    /// Whether the pair of these two bits is in the set.
+    /// Returns whether the pair of `first` and `second` is in the set.
     #[inline]
     pub fn has(self, first: bool, second: bool) -> bool
         ensures { result ≡ has_pair self first second }
@@ -188,16 +190,16 @@ impl PairSet {
         }
     }
 
-    /// Whether there are two pairs or more.
+    /// Returns whether the set has two pairs or more.
     #[inline]
     pub fn has_several(self) -> bool
         ensures { result ≡ has_several self }
     {
-        // without the lowest of its digits
+        // `&` clears the lowest digit that is 1.
         self.digits & (self.digits + 15) != 0
     }
 
-    /// Whether no pair has two values.
+    /// Returns whether no pair of the set has two different bits.
     #[inline]
     pub fn only_equal(self) -> bool
         ensures { result ≡ only_equal self }
@@ -205,7 +207,7 @@ impl PairSet {
         self.digits & 0b0110 == 0
     }
 
-    /// Whether each pair has two values.
+    /// Returns whether each pair of the set has two different bits.
     #[inline]
     pub fn only_unequal(self) -> bool
         ensures { result ≡ only_unequal self }

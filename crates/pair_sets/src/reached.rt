@@ -13,7 +13,7 @@ use crate::fault_pair::FaultPair;
 use event_queue::NumberQueue;
 use net_model::{Fault, Site, Wiring, stuck_position};
 
-/// Whether a position is reached.
+/// Returns whether position `at` is reached.
 pub(crate) fn is_reached(pair: &FaultPair, cone: &Cone, at: u32) -> bool
     requires cone { AreMarksOfTest (is_split pair.now.circuit.now pair.now.f pair.now.g) (line_count pair.now.circuit.now) cone.now }
     requires position { at < length pair.now.circuit.now.positions }
@@ -23,14 +23,14 @@ pub(crate) fn is_reached(pair: &FaultPair, cone: &Cone, at: u32) -> bool
     cone.has(line) || is_site(pair, at)
 }
 
-// Whether one of the faults stands at a position.
+// Returns whether one of the faults sticks position `at`.
 fn is_site(pair: &FaultPair, at: u32) -> bool
     ensures { result ≡ (is_some (stuck_position pair.now.f at) || is_some (stuck_position pair.now.g at)) }
 {
     stuck_position(pair.f, at).is_some() || stuck_position(pair.g, at).is_some()
 }
 
-/// Lets each reached position wait, where none waits yet.
+/// Inserts each reached position into `positions`, which is empty before.
 pub(crate) fn wake_reached(
     pair: &FaultPair,
     wiring: &Wiring,
@@ -53,7 +53,7 @@ pub(crate) fn wake_reached(
     wake_site(pair.g, positions);
 }
 
-// Lets the position wait at which a fault stands, if it stands at one.
+// Inserts the position that `fault` sticks, if it sticks one.
 fn wake_site(fault: Fault, positions: &mut NumberQueue)
     requires { (at : ℕ) → is_some (stuck_position fault at) ≡ true → at < length positions.old }
     ensures room { length positions.new ≡ length positions.old }

@@ -1,4 +1,4 @@
-//! The pairs that positions show, counted.
+//! The pairs that positions show, with counts of those that are not all equal and of those that are all unequal.
 
 ghost use Rattle.std.specs.Prelude.{◌≡◌, ◌<◌, IfOk, not, length, replicate, slice_set};
 ghost use Rattle.std.specs.List.{list_all};
@@ -8,7 +8,8 @@ use crate::pair_set::PairSet;
 use std::alloc::{AllocError, Global};
 use std::marker::Model;
 
-/// Pairs place by place, at how many places they aren't equal alone, and at how many they are unequal alone.
+/// A set of pairs for each place, the number of places whose pairs aren't all equal (`unlike`), and the number of
+/// places whose pairs are all unequal (`apart`).
 #[derive(Drop)]
 pub(crate) struct Shown {
     pairs: Vec<PairSet>,
@@ -30,7 +31,7 @@ impl Model for Shown {
 }
 
 impl Shown {
-    /// Equal pairs at each of so many places.
+    /// Returns `count` places, each with the equal pairs of both values.
     pub(crate) fn equal(alloc: Global, count: usize) -> Result<Shown, AllocError>
         ensures { IfOk result (λ shown. shown ≡ replicate count free_pairs) }
     {
@@ -53,14 +54,14 @@ impl Shown {
         self.pairs[place as usize] = pairs;
     }
 
-    /// Whether each place has equal pairs alone.
+    /// Returns whether each place has equal pairs only.
     pub(crate) fn are_equal(&self) -> bool
         ensures { result ≡ list_all only_equal self.now }
     {
         self.unlike == 0
     }
 
-    /// Whether no place has unequal pairs alone.
+    /// Returns whether no place has unequal pairs only.
     pub(crate) fn none_apart(&self) -> bool
         ensures { result ≡ list_all (λ s. not (only_unequal s)) self.now }
     {

@@ -1,4 +1,4 @@
-//! Which pairs of values two faults can give a line under a cube.
+//! `PairSim`, a simulation of two faults under a cube: the pairs of values that they may give each line.
 
 ghost use Rattle.std.specs.Prelude.{◌≡◌, ◌<◌, ◌∷◌, [], All, None, IfOk, drop, length};
 ghost use Rattle.net_model.specs.declared.fault.Fault.TheVariants.{Free};
@@ -24,7 +24,7 @@ use net_model::{Circuit, Fault};
 use std::alloc::{AllocError, Global};
 use std::marker::Model;
 
-// A source that was fixed, and how many changes of pairs there were before.
+// A fixed source with its bit, and the number of changes of pairs before it was fixed.
 #[derive(Clone, Copy)]
 pub(crate) struct Level {
     source: u32,
@@ -32,8 +32,8 @@ pub(crate) struct Level {
     start: usize,
 }
 
-/// Two faults under a cube of input vectors: each line has the pairs of values that they may give it, taking what
-/// the pins of a gate see as independent. It borrows the circuit and keeps copies of the faults.
+/// Two faults under a cube of input vectors: each line has the pairs of values that they may give it, if what the pins
+/// of a gate see is taken as independent. It borrows the circuit and keeps copies of the faults.
 pub struct PairSim<'a> {
     pair: FaultPair<'a>,
     base: Vec<PairSet>,
@@ -55,7 +55,7 @@ impl<'a> Model for PairSim<'a> {
     ghost Value = { spec.PairSim };
 }
 
-// Written out, it is one step in the proof of each function that lets a simulation go.
+// Written by hand, so that dropping a simulation is one step in a proof.
 impl Drop for PairSim<'_> {
     fn drop(self) {
         let PairSim {
@@ -71,7 +71,7 @@ impl Drop for PairSim<'_> {
 }
 
 impl<'a> PairSim<'a> {
-    /// The simulation of two faults under the cube of all vectors.
+    /// Returns the simulation of faults `f` and `g` of `circuit` under the cube of all vectors.
     pub fn new(
         alloc: Global,
         circuit: &'a Circuit,
@@ -87,9 +87,8 @@ impl<'a> PairSim<'a> {
         Ok(sim)
     }
 
-    /// Puts two other faults of the circuit in the place of those that were simulated, under the cube of all vectors.
-    /// Only lines are touched that the faults reach, that the last ones did, or that changed with the cube. It takes no
-    /// memory.
+    /// Replaces the two faults by `f` and `g`, and the cube by that of all vectors. It touches only lines that the new
+    /// or the old faults can change and lines whose pairs changed with the cube, and allocates no memory.
     pub fn restart(&mut self, f: &Fault, g: &Fault)
         requires first { IsFaultOf self.old.circuit f.now }
         requires second { IsFaultOf self.old.circuit g.now }
@@ -99,7 +98,7 @@ impl<'a> PairSim<'a> {
         self.enter(f, g);
     }
 
-    // The simulation of the circuit without faults.
+    // Returns the simulation of the circuit without faults, under the cube of all vectors.
     fn free(alloc: Global, circuit: &'a Circuit) -> Result<PairSim<'a>, AllocError>
         ensures { IfOk result (λ sim. sim ≡ pair_sim circuit.now Free Free []) }
     {
@@ -121,7 +120,7 @@ impl<'a> PairSim<'a> {
         })
     }
 
-    // Takes both faults away and frees all sources.
+    // Removes both faults and frees all sources.
     fn clear(&mut self)
         ensures { self.new ≡ pair_sim self.old.circuit Free Free [] }
     {
@@ -135,7 +134,7 @@ impl<'a> PairSim<'a> {
         self.pair.g = Fault::Free;
     }
 
-    // Puts two faults into the circuit without faults.
+    // Puts `f` and `g` into a simulation without faults and without fixed sources.
     fn enter(&mut self, f: &Fault, g: &Fault)
         requires free { self.old ≡ pair_sim self.old.circuit Free Free [] }
         requires first { IsFaultOf self.old.circuit f.now }
@@ -156,7 +155,8 @@ impl<'a> PairSim<'a> {
             .fill(&self.pair, wiring, &self.cone, self.trail.sets.as_slice());
     }
 
-    /// Fixes a source that is free. Only gates that read a line whose pairs change are evaluated. It takes no memory.
+    /// Fixes the free source `source` at `bit`. It evaluates only gates that read a line whose pairs change, and
+    /// allocates no memory.
     pub fn assign(&mut self, source: u32, bit: bool)
         requires source { source < self.old.circuit.sources }
         requires free { fixed_bit self.old.cube source ≡ None }
@@ -170,7 +170,7 @@ impl<'a> PairSim<'a> {
         self.levels.push_reserved(Level { source, bit, start });
     }
 
-    /// Frees the source that was fixed last. It takes no memory.
+    /// Frees the source that was fixed last. It allocates no memory.
     pub fn undo(&mut self)
         requires { 0 < length self.old.cube }
         ensures { self.new ≡ with_cube self.old (drop 1 self.old.cube) }
@@ -183,8 +183,9 @@ impl<'a> PairSim<'a> {
         }
     }
 
-    /// What the pairs at the reached positions say of the cube. Of a cube that is apart it names the lowest position
-    /// at which the faults differ for every vector.
+    /// Returns what the pairs at the reached positions say of the cube: `AllSame` if each position shows equal pairs
+    /// only; else `Apart` with the lowest position that shows unequal pairs only, if there is one; else `Undecided`,
+    /// exactly if some reached position has a pair of two different values and none has such pairs only.
     pub fn state(&self) -> PairState
         ensures { IsState self.now.circuit self.now.f self.now.g self.now.cube result }
     {
@@ -211,7 +212,7 @@ impl<'a> PairSim<'a> {
         self.pair.circuit
     }
 
-    /// The observed positions that the faults can change, ascending.
+    /// Returns the observed positions that the faults can change, ascending.
     pub fn reached(&self) -> &[u32]
         ensures value { result.now ≡ reached_positions self.now.circuit self.now.f self.now.g }
         ensures inside { All (λ at. at < length self.now.circuit.positions) result.now }
@@ -220,7 +221,7 @@ impl<'a> PairSim<'a> {
         self.tally.reached.as_slice()
     }
 
-    /// The pairs of a line.
+    /// Returns the pairs of `line`.
     pub fn pairs(&self, line: u32) -> PairSet
         requires { line < line_count self.now.circuit }
         ensures { IsPart self.now.circuit self.now.f self.now.g self.now.cube (λ sets. set_at sets line) result }
@@ -228,7 +229,7 @@ impl<'a> PairSim<'a> {
         self.trail.sets[line as usize]
     }
 
-    /// The pairs that a pin of a line's gate sees, where it reads that line.
+    /// Returns the pairs that pin `pin` of the gate of `line` sees if it reads line `read`.
     pub fn pin_pairs(&self, line: u32, pin: u32, read: u32) -> PairSet
         requires { read < line_count self.now.circuit }
         ensures { IsPart self.now.circuit self.now.f self.now.g self.now.cube (λ sets. forced_pairs (stuck_pin self.now.f line pin) (stuck_pin self.now.g line pin) (set_at sets read)) result }
@@ -237,7 +238,7 @@ impl<'a> PairSim<'a> {
             .pin_pairs(self.trail.sets.as_slice(), line, pin, read)
     }
 
-    /// The pairs that an observed position shows.
+    /// Returns the pairs that observed position `at` shows.
     pub fn position_pairs(&self, at: u32) -> PairSet
         requires { at < length self.now.circuit.positions }
         ensures { IsPart self.now.circuit self.now.f self.now.g self.now.cube (λ sets. position_pairs self.now.circuit self.now.f self.now.g sets at) result }

@@ -1,5 +1,5 @@
-//! The pairs of two faults under the cube of all vectors, from those of the circuit without faults: only the lines that
-//! the faults reach are evaluated, gate by gate in an order of the circuit.
+//! The pairs of two faults under the cube of all vectors, computed from those of the circuit without faults. Only lines
+//! that the faults can change are evaluated, gate by gate in an evaluation order of the circuit.
 
 ghost use Rattle.std.specs.Prelude.{◌≡◌, ℕ, ◌<◌, Bool, true, [], ◌==◌, ◌||◌, length};
 ghost use Rattle.net_model.specs.Circuit.{line_count};
@@ -19,7 +19,7 @@ use crate::pair_set::PairSet;
 use event_queue::NumberQueue;
 use net_model::{Fault, Wiring, first_changed};
 
-/// Gives the lines their pairs under two faults, where they have those without faults, and marks the lines that the
+/// Replaces the pairs that the lines have without faults by those under the two faults, and marks the lines that the
 /// faults can change.
 pub(crate) fn spread(
     pair: &FaultPair,
@@ -50,7 +50,7 @@ pub(crate) fn spread(
     }
 }
 
-// Enters the first line that one of the faults changes, if it changes one.
+// Enters the first line that `fault` changes, if it changes one.
 fn begin(
     pair: &FaultPair,
     wiring: &Wiring,
@@ -72,7 +72,7 @@ fn begin(
     enter(pair, wiring, line, queue, cone, sets);
 }
 
-// Gives a line its pairs, and marks it. Its readers wait from now on.
+// Sets the pairs of `line` and marks it. Its readers wait from now on.
 fn enter(
     pair: &FaultPair,
     wiring: &Wiring,

@@ -1,4 +1,4 @@
-//! What the reached positions show, kept up with the pairs of the lines.
+//! The pairs that the reached positions show, updated with the pairs of the lines.
 
 ghost use Rattle.std.specs.Prelude.{◌≡◌, ◌≢◌, ℕ, ◌<◌, ◌≤◌, ◌^◌, All, Contains, IfOk, drop, find, length, slice_index};
 ghost use Rattle.fault_list.specs.Scope.{AreMarksOfTest};
@@ -20,7 +20,8 @@ use event_queue::NumberQueue;
 use net_model::Wiring;
 use std::alloc::{AllocError, Global};
 
-/// The reached positions, and for each position the pairs that it shows; equal ones where it isn't reached.
+/// The reached positions, and for each position the pairs that it shows, or the equal pairs of both values if it isn't
+/// reached.
 #[derive(Drop)]
 pub(crate) struct Tally {
     waiting: NumberQueue,
@@ -29,7 +30,7 @@ pub(crate) struct Tally {
 }
 
 impl Tally {
-    /// None of so many positions is reached. No later call takes memory.
+    /// Returns a tally of `count` positions, none of them reached. No later call allocates memory.
     pub(crate) fn none(alloc: Global, count: usize) -> Result<Tally, AllocError>
         requires { count < 2 ^ 32 }
         ensures blank { IfOk result IsTallyBlank }
@@ -42,7 +43,8 @@ impl Tally {
         })
     }
 
-    /// Takes out all that is kept of reached positions, and touches no others.
+    /// Empties the list of reached positions, and gives each of them the equal pairs of both values. It touches no
+    /// others.
     pub(crate) fn clear(&mut self)
         requires places { HasTallyPlaces (length self.old.shown) self.old }
         requires others { IsBlankBut self.old.reached.items self.old.shown }
@@ -54,7 +56,7 @@ impl Tally {
         }
     }
 
-    /// Puts in what the positions show that two faults reach, where nothing is kept yet. It takes no memory.
+    /// Enters the positions that the two faults reach, and what they show, into a blank tally. It allocates no memory.
     pub(crate) fn fill(&mut self, pair: &FaultPair, wiring: &Wiring, cone: &Cone, sets: &[PairSet])
         requires wiring { IsWiring pair.now.circuit.now wiring.now }
         requires first { IsFaultOf pair.now.circuit.now pair.now.f }
@@ -75,7 +77,7 @@ impl Tally {
         }
     }
 
-    /// Looks again at the positions that show a line of the changes from one on. It takes no memory.
+    /// Updates each position that shows a line of the changes starting at `start`. It allocates no memory.
     pub(crate) fn recount(&mut self, pair: &FaultPair, cone: &Cone, trail: &PairTrail, start: usize)
         requires width { length trail.now.sets.items ≡ line_count pair.now.circuit.now }
         requires cone { AreMarksOfTest (is_split pair.now.circuit.now pair.now.f pair.now.g) (line_count pair.now.circuit.now) cone.now }
@@ -93,7 +95,7 @@ impl Tally {
         }
     }
 
-    // Looks again at these positions.
+    // Updates what is kept of each of `positions`.
     fn look_again(&mut self, pair: &FaultPair, cone: &Cone, sets: &[PairSet], positions: &[u32])
         requires width { length sets.now ≡ line_count pair.now.circuit.now }
         requires cone { AreMarksOfTest (is_split pair.now.circuit.now pair.now.f pair.now.g) (line_count pair.now.circuit.now) cone.now }
@@ -110,7 +112,8 @@ impl Tally {
     }
 }
 
-// What is kept of a position.
+// Returns what is kept of position `at`: the pairs that it shows, or the equal pairs of both values if it isn't
+// reached.
 fn kept_pairs(pair: &FaultPair, cone: &Cone, sets: &[PairSet], at: u32) -> PairSet
     requires width { length sets.now ≡ line_count pair.now.circuit.now }
     requires cone { AreMarksOfTest (is_split pair.now.circuit.now pair.now.f pair.now.g) (line_count pair.now.circuit.now) cone.now }
@@ -124,7 +127,7 @@ fn kept_pairs(pair: &FaultPair, cone: &Cone, sets: &[PairSet], at: u32) -> PairS
     }
 }
 
-/// The first of these positions that has unequal pairs alone, if one has.
+/// Returns the first of the positions `reached` that shows unequal pairs only, if there is one.
 pub(crate) fn first_apart(pair: &FaultPair, sets: &[PairSet], reached: &[u32]) -> Option<u32>
     requires width { length sets.now ≡ line_count pair.now.circuit.now }
     requires positions { All (λ at. at < length pair.now.circuit.now.positions) reached.now }

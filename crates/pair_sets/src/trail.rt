@@ -1,4 +1,4 @@
-//! The pairs of all lines, and how to take their changes back.
+//! The pairs of all lines, and their changes, which can be undone.
 
 ghost use Rattle.std.specs.Prelude.{◌≡◌, ℕ, ◌<◌, ◌≤◌, ◌∷◌, [], ◌++◌, All, Contains, IfOk, drop, length, slice_set, vec_capacity};
 ghost use Rattle.pair_sets.specs.CubeState.{set_at};
@@ -7,7 +7,7 @@ ghost use Rattle.pair_sets.specs.Trail.{HasChangeRoom, change_with, pairs_in_set
 use crate::pair_set::PairSet;
 use std::alloc::{AllocError, Global};
 
-/// A line whose pairs changed, and what they were before.
+/// A line whose pairs changed, and the pairs that it had before.
 #[derive(Clone, Copy)]
 pub(crate) struct Change {
     pub(crate) line: u32,
@@ -22,7 +22,7 @@ pub(crate) struct PairTrail {
 }
 
 impl PairTrail {
-    /// These pairs of the lines, with room for so many changes.
+    /// Returns a trail with the pairs `sets`, no changes, and room for `room` changes.
     pub(crate) fn of(alloc: Global, sets: &[PairSet], room: usize) -> Result<PairTrail, AllocError>
         ensures sets { IfOk result (λ trail. trail.sets.items ≡ sets.now) }
         ensures changes { IfOk result (λ trail. trail.changes.items ≡ []) }
@@ -34,7 +34,7 @@ impl PairTrail {
         })
     }
 
-    /// Gives a line fewer pairs. It takes no memory.
+    /// Replaces the pairs of `line` by fewer ones, and notes the change. It allocates no memory.
     pub(crate) fn set(&mut self, line: u32, pairs: PairSet)
         requires line { line < length self.old.sets.items }
         requires fewer { pairs_in_set pairs < pairs_in_set (set_at self.old.sets.items line) }
@@ -49,7 +49,7 @@ impl PairTrail {
         self.sets[line as usize] = pairs;
     }
 
-    /// Gives the lines the pairs that they had before all changes but the first so many.
+    /// Gives the lines the pairs that they had after the first `start` changes. The noted changes stay.
     pub(crate) fn restore(&mut self, start: usize)
         requires start { start ≤ length self.old.changes.items }
         requires within { All (λ change. change.line < length self.old.sets.items) self.old.changes.items }
@@ -64,7 +64,7 @@ impl PairTrail {
         }
     }
 
-    /// Gives these lines the pairs that they have there.
+    /// Gives each of `lines` the pairs that it has in `from`.
     pub(crate) fn copy(&mut self, from: &[PairSet], lines: &[u32])
         requires within { All (λ line. line < length self.old.sets.items) lines.now }
         requires width { length from.now ≡ length self.old.sets.items }

@@ -33,7 +33,7 @@ count-agree p q a (suc n) agree =
     ∙ (ap₂ (λ (b : Bool) (m : ℕ). cond {A = ℕ} b 1 0 + m) (agree a (omega arith) (omega arith)) (count-agree p q (a + 1) n (λ k low high. agree k (omega (arith, low)) (omega (arith, high))))
     ∙ sym (sum_by-cons (one_of q) a (range_with_len (a + 1) n)))
 
--- a test that answers otherwise at one place alone counts one more where it says yes there
+-- a test that differs from another at one place only, at which the other fails, counts one more if it passes there
 count-one_more : (p q : ℕ → Bool) (at a n : ℕ) → a ≤ at → at < a + n → p at ≡ false → ((k : ℕ) → a ≤ k → k < a + n → k ≢ at → q k ≡ p k)
     → count_by q (range_with_len a n) ≡ count_by p (range_with_len a n) + one_of q at
 count-one_more p q at a zero low high none same = absurd (omega (arith, low, high))
@@ -103,7 +103,7 @@ mismatches-counted entry w bits is fits seen ones =
         ∙ (ap (λ (b : Bool). b && bit_of w.seen k) (digit_xor bits w.ones k)
         ∙ (ap (λ (b : Bool). cond b (not (bit_of w.ones k)) (bit_of w.ones k) && bit_of w.seen k) (is.are k h) ∙ differing (bit_at entry (w.word * 64 + k)) (bit_of w.ones k) (bit_of w.seen k)))
 
--- a bit more that wasn't seen yet
+-- one more bit, which wasn't seen yet
 pub mismatches-more : (entry : List Bool) (old new : SeenWord) (at : ℕ) (one : Bool) → at < 64 → IsBitSeen old new at one → bit_of old.seen at ≡ false
     → word_mismatches entry new ≡ word_mismatches entry old + cond (differs (seen_of one) (bit_at entry (old.word * 64 + at))) 1 0
 unfolding word_mismatches
@@ -128,7 +128,7 @@ mismatches-more entry old new at one h is free =
         let ones : bit_of new.ones at ≡ one = is.ones at h ∙ ap (λ (b : Bool). cond b one (bit_of old.ones at)) yes in
         λ i. differs (cond (seen i) (seen_of (ones i)) Unseen) (bit_at entry (is.word i * 64 + at))
 
--- a word of which nothing was seen
+-- a word in which nothing was seen
 pub mismatches-none : (entry : List Bool) (w : SeenWord) → w.seen ≡ 0 → word_mismatches entry w ≡ 0
 unfolding word_mismatches
 mismatches-none entry w none = count-none _ 0 64 (λ k. ap (λ (n : ℕ). differs (cond (bit_of n k) (seen_of (bit_of w.ones k)) Unseen) (bit_at entry (w.word * 64 + k))) none

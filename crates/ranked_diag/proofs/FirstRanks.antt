@@ -17,7 +17,7 @@ has_count count rank = rank.0 == count
 
 -- ---- what passes a test
 
--- where a first test passes all that a second one does, what passes both passes the second
+-- if a first test passes all that a second one passes, what passes both is what passes the second
 skipped_step : (q : Rank → Bool) (x : Rank) (xs : List Rank) (b : Bool) → (b ≡ true → ⊥) → filter q xs ≡ cond b (x ∷ filter q xs) (filter q xs)
 skipped_step q x xs true never = absurd (never refl)
 skipped_step q x xs false never = refl
@@ -66,7 +66,7 @@ module _ (m : ℕ → ℕ) where
   counted_are k zero = refl
   counted_are k (suc n) = ap (λ (xs : List Rank). (m k, k) ∷ xs) (counted_are (k + 1) n)
 
-  -- from a number on
+  -- a rank with count 0 and a number at or after `low`
   abbrev IsFree : ℕ → Rank → Type 0
   IsFree low rank = (rank.0 ≡ 0) × (low ≤ rank.1)
 
@@ -94,7 +94,7 @@ module _ (m : ℕ → ℕ) where
   free_numbers k zero = refl
   free_numbers k (suc n) = numbers_step k (filter (has_count 0) (numbered (k + 1) n)) (filter (λ number. m number == 0) (range_with_len (k + 1) n)) (m k == 0) (free_numbers (k + 1) n)
 
-  -- a ranking has with none exactly the numbers without a count
+  -- the numbers that a ranking has with count 0 are exactly those without a count
   pub ranked_with_none : (n within : ℕ) (ranks : List Rank) → IsRanking (map m (range_with_len 0 n)) within ranks → ranked_with 0 ranks ≡ filter (λ number. m number == 0) (range_with_len 0 n)
   ranked_with_none n within ranks is =
       let counts = map m (range_with_len 0 n) in
@@ -110,7 +110,7 @@ module _ (m : ℕ → ℕ) where
 
 -- ---- the least is the first
 
--- how many of some counts are this one
+-- how often a count is among some
 abbrev times : ℕ → List ℕ → ℕ
 times count counts = count_by (λ x. x == count) counts
 
@@ -166,7 +166,7 @@ ranked_low counts within ranks is =
     All-permutation Low (near_least counts within) ranks is.exactly
     (All-filter (λ rank. nat_le rank.0 (least counts + within)) Low (counted_numbers counts) (counted_low (least counts) 0 counts (least-low counts)))
 
--- of ranks of which each is at least so much and some has a count, it is
+-- if each of some ranks has at least `low` and one has `count`, then `count` is at least `low`
 passing_step : (low count : ℕ) (z : Rank) (zs : List Rank) (b : Bool) → z.0 == count ≡ b → low ≤ z.0 → 0 < count_by (has_count count) (z ∷ zs) → (0 < count_by (has_count count) zs → low ≤ count) → low ≤ count
 passing_step low count z zs true e here some rest = omega (arith, here, eqb-true z.0 count e)
 passing_step low count z zs false e here some rest =

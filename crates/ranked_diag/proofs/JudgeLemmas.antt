@@ -20,7 +20,7 @@ use Rattle.ranked_diag.proofs.PartialLemmas.{line_without_feed, more_text}
 abbrev IsTold : Type 0 → Type 0
 IsTold P = P ⊎ (P → ⊥)
 
--- some number below a bound has what can be told, or none has
+-- if it is decided for each number, some number below a bound has the property, or none has
 bounded : (P : ℕ → Type 0) → ((n : ℕ) → IsTold (P n)) → (k : ℕ) → ((n : ℕ) × (n < k) × P n) ⊎ ((n : ℕ) → n < k → P n → ⊥)
 bounded P told zero = inr (λ n h p. omega (arith, h))
 bounded P told (suc k) = elim (told k) [

@@ -1,4 +1,4 @@
--- Where all bits are observed, no mismatch is to have the observed entry.
+-- If all bits are observed, to have no mismatch is to have the observed entry.
 use Rattle.std.proofs.Common.{◌≡◌, ◌∙◌, ℕ, zero, suc, ◌+◌, ◌*◌, ◌<◌, ◌≤◌, Bool, true, false, not, cond, eqb, ltb, List, [], ◌∷◌, ◌++◌, map, length, take, drop, get_or, refl, sym, ap, ap₂, subst, inl, inr, arith}
 use Rattle.std.specs.Prelude.{◌⊎◌, All, sum_by, flat_map, filter}
 use Rattle.std.specs.Bool.{Decides}
@@ -48,7 +48,7 @@ module _ (width : ℕ) (entry : List Bool) where
   abbrev part_differs : Line → ℕ
   part_differs line = differing_bits line.1 (entry_part width entry line.0)
 
-  -- the mismatches of rows that are wholly seen, numbered from n on
+  -- the mismatches of rows that are wholly seen, numbered starting at `n`
   abbrev parts_differ : ℕ → List (List Bool) → ℕ
   parts_differ n parts = sum_by part_differs (enumerate_from n (map (map seen_of) parts))
 

@@ -1,4 +1,4 @@
--- What lines tell of the entries of a dictionary, one line after another.
+-- What lines say of the entries of a dictionary, one line after another.
 use Rattle.std.proofs.Common.{◌≡◌, ◌∙◌, ℕ, ◌+◌, ◌*◌, ◌<◌, ◌≤◌, Bool, true, false, cond, ltb, List, [], ◌∷◌, map, length, get_or, take, drop, refl, sym, ap, subst, arith}
 use Rattle.std.specs.Prelude.{All, Some, slice_get, nat_lt}
 use Rattle.std.proofs.lemmas.Bool.{lt-ltb}
@@ -70,7 +70,7 @@ baseline-there PassFail patterns positions pattern baselines other count below =
 baseline-there Full patterns positions pattern baselines other count below = absurd (other refl)
 baseline-there SameDiff patterns positions pattern baselines other count below = omega (arith, count, below)
 
--- ---- words that tell some lines
+-- ---- words that have what some lines say
 
 module _ (d : Dict) (lines : List Line) where
   abbrev width : ℕ
@@ -79,7 +79,7 @@ module _ (d : Dict) (lines : List Line) where
   abbrev pattern : ℕ → ℕ
   pattern k = get_or (patterns_of lines) k 0
 
-  -- The words tell what the first lines do, so many, and nothing of what stands behind these.
+  -- The words have what the first `count` lines say, and nothing after it.
   pub record AreWordsSoFar (count : ℕ) (words : List SeenWord) : Type 0 where
     pub before : (place : ℕ) → ((k : ℕ) → k < count → (pattern k + 1) * width ≤ place) → AreSeenBefore place words
     pub counts : (entry : List Bool) → length entry ≡ entry_width d.kind d.patterns d.positions → seen_mismatches words entry ≡ entry_mismatches d (take count lines) entry

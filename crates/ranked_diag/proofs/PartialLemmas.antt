@@ -81,7 +81,7 @@ text_behind lines rest = partial_text lines ++ rest
 text_more : (line : Line) (lines : List Line) (rest : Text) → text_behind (line ∷ lines) rest ≡ partial_line line ++ 10 ∷ text_behind lines rest
 text_more line lines rest = append_assoc (partial_line line ++ 10 ∷ []) (partial_text lines) rest ∙ append_assoc (partial_line line) (10 ∷ []) (text_behind lines rest)
 
--- a line behind others, or at the end of these
+-- a line after others, or at the end of these
 pub more_text : (before : List Line) (line : Line) (more : Text) → partial_text before ++ (partial_line line ++ 10 ∷ more) ≡ partial_text (before ++ line ∷ []) ++ more
 more_text before line more =
     ap (λ (t : Text). partial_text before ++ t) (sym (text_more line [] more)) ∙ sym (append_assoc (partial_text before) (partial_text (line ∷ [])) more)
@@ -130,7 +130,7 @@ order_left patterns first behind order = record {
   below = All-left (λ p. p < patterns) first behind order.below;
 }
 
--- a line of a partial log may stand behind those before it
+-- a line of a partial log may follow those before it
 line_follows : (patterns : ℕ) (before : List Line) (line : Line) (more : List Line) → AreInOrder patterns (patterns_of (before ++ line ∷ more)) → MayFollow patterns before line.0
 line_follows patterns before line more order =
     order_left patterns (patterns_of before ++ line.0 ∷ []) (patterns_of more)
@@ -140,13 +140,13 @@ all_at : {X : Type 0} (P : X → Type 0) (before : List X) (x : X) (more : List 
 all_at P [] x more all = All-head P x more all
 all_at P (y ∷ before) x more all = all_at P before x more (All-tail P y (before ++ x ∷ more) all)
 
--- ---- what is refused behind some lines
+-- ---- what is refused after some lines
 
 module _ (patterns positions : ℕ) (small : patterns < 2 ^ 32) where
   follower_small : (before : List Line) (line : Line) → MayFollow patterns before line.0 → line.0 < 2 ^ 32
   follower_small before line follows = let low = all_at (λ p. p < patterns) (patterns_of before) line.0 [] follows.below in omega (arith, low, small)
 
-  -- where a line stands that may, nothing is refused
+  -- a right line that may follow is never refused
   right_line : (before : List Line) (line : Line) (more : Text) (kind : LogKind) → MayFollow patterns before line.0 → length line.1 ≡ positions → PartialRestRefused patterns positions before (partial_line line ++ 10 ∷ more) kind → ⊥
   right_line before line more kind follows wide (no_line some none k) = none line more (follower_small before line follows, refl)
   right_line before line more kind follows wide (misplaced other behind begins unable k) =
@@ -154,13 +154,13 @@ module _ (patterns positions : ℕ) (small : patterns < 2 ^ 32) where
   right_line before line more kind follows wide (wrong_width other behind begins may wrong k) =
       wrong (subst (λ (l : Line). length l.1 ≡ positions) (line_once line other more behind (follower_small before line follows) begins.0 begins.1).0 wide)
 
-  -- nor where nothing stands
+  -- the end of a text isn't refused
   right_end : (before : List Line) (kind : LogKind) → PartialRestRefused patterns positions before [] kind → ⊥
   right_end before kind (no_line some none k) = some refl
   right_end before kind (misplaced line more begins unable k) = not_empty (partial_line line) more 10 (sym begins.1)
   right_end before kind (wrong_width line more begins may wrong k) = not_empty (partial_line line) more 10 (sym begins.1)
 
-  -- where a right list of lines goes on, nothing is refused
+  -- if a right list of lines goes on, nothing is refused there
   goes_on_right : (before others : List Line) (rest other_rest : Text) (kind : LogKind) → ArePartial patterns positions others → GoesOn before others rest other_rest → PartialRestRefused patterns positions before rest kind
       → (before ≡ others) × (rest ≡ other_rest)
   goes_on_right before others rest other_rest kind are on refused = by on.more on.lines_are on.rest_is

@@ -1,4 +1,4 @@
--- Lines of partial logs as they are read, and what is refused behind some.
+-- Lines of partial logs as they are read, and what is refused after some.
 use Rattle.std.proofs.Common.{◌≡◌, ◌≢◌, ◌∙◌, ℕ, zero, suc, ◌+◌, ◌<◌, ◌≤◌, ◌^◌, List, [], ◌∷◌, ◌++◌, map, length, get_or, refl, sym, ap, ap₂, subst, inl, inr, arith}
 use Rattle.std.specs.Prelude.{Contains, codes, decimal, slice_index}
 use Rattle.std.proofs.lemmas.Bool.{cases_lt}
@@ -28,7 +28,7 @@ digits_back : (field : Text) → ((k : ℕ) → k < length field → IsSeenDigit
 digits_back [] digits = refl
 digits_back (byte ∷ field) digits = ap₂ (λ (b : ℕ) (bs : Text). b ∷ bs) (digit_back byte (digits 0 (omega arith))) (digits_back field (λ k below. digits (suc k) (omega (arith, below))))
 
--- digits spell themselves, where there are some
+-- digits spell themselves, if there are some
 pub seen_spell : (field : Text) → (length field ≡ 0 → ⊥) → ((k : ℕ) → k < length field → IsSeenDigit (get_or field k 0)) → seen_text (digits_seen field) ≡ field
 seen_spell [] some digits = absurd (some refl)
 seen_spell (byte ∷ field) some digits = digits_back (byte ∷ field) digits
@@ -43,7 +43,7 @@ all_digits [] k below = absurd (omega (arith, below))
 all_digits (s ∷ seen) zero below = is_digit s
 all_digits (s ∷ seen) (suc k) below = all_digits seen k (omega (arith, below))
 
--- a field with another byte is no text of what was seen, but for the dash
+-- a field with another byte is no text of what was seen, except the dash
 pub no_seen : (field : Text) → (field ≡ codes "-" → ⊥) → (((k : ℕ) → k < length field → IsSeenDigit (get_or field k 0)) → ⊥) → (seen : List Seen) → seen_text seen ≡ field → ⊥
 no_seen field dash other [] e = dash (sym e)
 no_seen field dash other (s ∷ seen) e = other (λ k below. subst (λ (f : Text). IsSeenDigit (get_or f k 0)) e (all_digits (s ∷ seen) k (omega (arith, below, ap length e))))
@@ -54,16 +54,16 @@ no_empty_seen field none (s ∷ seen) e = omega (arith, none, ap length e)
 
 -- ---- a line and its fields
 
--- where a text has no LF, it begins with no line
+-- a text without an LF begins with no line
 pub no_feed : (text : Text) → ¬ Contains text 10 → HasNoPartial text
 no_feed text none line more begins = none (subst (λ (t : Text). Contains t 10) (sym begins.1) (Contains-append_right (partial_line line) (10 ∷ more) 10 (0, omega arith, refl)))
 
--- where the first line has no fields, the text begins with no line
+-- if the first line has no fields, the text begins with no line
 pub no_fields : (text front more : Text) → IsCutAt 10 text front more → ((line : Line) → line.0 < 2 ^ 32 → partial_line line ≢ front) → HasNoPartial text
 no_fields text front more cut none line behind begins =
     none line begins.0 (sym (cut_once 10 front (partial_line line) more behind cut.first (line_without_feed line begins.0) (sym cut.text_is ∙ begins.1)).0)
 
--- where a line has no blank, or no number before it, or nothing that was seen behind it, no fields spell it
+-- if a line has no blank, or no number before it, or nothing that was seen after it, no fields spell it
 pub no_blank : (front : Text) → ¬ Contains front 32 → (line : Line) → line.0 < 2 ^ 32 → partial_line line ≢ front
 no_blank front none line small e = none (subst (λ (t : Text). Contains t 32) e (Contains-append_right (decimal line.0) (32 ∷ seen_text line.1) 32 (0, omega arith, refl)))
 
@@ -105,7 +105,7 @@ order_more patterns p q named order rises below = record {
     more : length (first ++ q ∷ []) ≡ length first + 1
     more = length-append first (q ∷ [])
 
--- and one that is in order behind others is above the last of these
+-- a pattern that is in order after others is above the last of these
 order_last : (patterns p q : ℕ) (named : List ℕ) → AreInOrder patterns ((named ++ p ∷ []) ++ q ∷ []) → (p + 1 ≤ q) × (q < patterns)
 order_last patterns p q named order =
     let first = named ++ p ∷ [] in
@@ -136,7 +136,7 @@ go_on_more patterns before line may pattern =
       (λ both. subst (λ (ps : List ℕ). AreInOrder patterns (ps ++ pattern ∷ [])) (sym named) (order_more patterns line.0 pattern (patterns_of before) may (omega (arith, both.0)) both.1)),
     )
 
--- ---- what stands behind some lines, as the reader finds it
+-- ---- what is after some lines, as the reader finds it
 
 module _ (patterns positions least : ℕ) (rest : Text) (pattern : ℕ) (digits more : Text) (begins : BeginsWithPartial rest (pattern, digits_seen digits) more) where
   pub refuse_order : (least ≤ pattern → pattern < patterns → ⊥) → (before : List Line) → GoOnFrom patterns before least → PartialRestRefused patterns positions before rest Order
@@ -148,7 +148,8 @@ module _ (patterns positions least : ℕ) (rest : Text) (pattern : ℕ) (digits 
 
 -- ---- a partial log that is read so far
 
--- The lines are those before what is left, of which the next one has this number and a pattern from the least one on.
+-- The lines are those before `rest`. Its first line has this number, and the patterns that may follow are those in
+-- `least..patterns`.
 pub record IsPartialSoFar (patterns positions : ℕ) (text : Text) (number least : ℕ) (lines : List Line) (rest : Text) : Type 0 where
   pub are : ArePartial patterns positions lines
   pub on : GoOnFrom patterns lines least

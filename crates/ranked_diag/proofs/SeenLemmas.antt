@@ -74,7 +74,7 @@ before_more place more words before le = record {
   few = λ entry. omega (arith, before.few entry, le);
 }
 
--- The new words tell one bit more.
+-- The new words have one bit more.
 pub record AreOneMore (old new : List SeenWord) (place : ℕ) (s : Seen) : Type 0 where
   pub begun : All (IsBegun (place + 1)) new
   pub free : All (IsFree (place + 1)) new

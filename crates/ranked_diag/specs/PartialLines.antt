@@ -5,22 +5,24 @@ use Rattle.ranked_diag.specs.declared.partial.Seen.{Seen}
 use Rattle.ranked_diag.specs.declared.partial.Seen.TheVariants.{Zero, One, Unseen}
 use Rattle.ranked_diag.specs.PartialLog.{Line, BeginsWithPartial, MayFollow}
 
--- what a digit tells
+-- what was seen, by its digit
 abbrev pub digit_seen : ℕ → Seen
 digit_seen digit = if digit == 49 then One else if digit == 48 then Zero else Unseen
 
+-- what was seen at each position, by its digit
 abbrev pub digits_seen : Text → List Seen
 digits_seen digits = map digit_seen digits
 
--- The byte is a digit of what was seen.
+-- The byte is a digit of what was seen: `0`, `1` or `x`.
 abbrev pub IsSeenDigit : ℕ → Type 0
 IsSeenDigit byte = (byte ≡ 48) ⊎ ((byte ≡ 49) ⊎ (byte ≡ 120))
 
--- The patterns that may follow these lines are those from this one on.
+-- The patterns that may follow these lines are those in `least..patterns`.
 abbrev pub GoOnFrom : ℕ → List Line → ℕ → Type 0
 GoOnFrom patterns before least = (pattern : ℕ) → MayFollow patterns before pattern ↔ ((least ≤ pattern) × (pattern < patterns))
 
--- The text begins with the line of a pattern from the least one on, with a digit for each position.
+-- The text begins with the line of a pattern in `least..patterns`, with a digit for each position, and continues with
+-- `rest`.
 pub record IsRightPartialLine (patterns positions least : ℕ) (text : Text) (pattern : ℕ) (digits rest : Text) : Type 0 where
   pub begins : BeginsWithPartial text (pattern, digits_seen digits) rest
   pub low : least ≤ pattern

@@ -24,24 +24,27 @@ word_mismatches entry w = count_by (λ k. differs (seen_in w k) (bit_at entry (w
 abbrev pub seen_mismatches : List SeenWord → List Bool → ℕ
 seen_mismatches words entry = sum_by (word_mismatches entry) words
 
--- What was seen stands before a place of the entry, each bit once.
+-- Only bits before `place` of the entry were seen, in words that begin before it, and no entry has more than `place`
+-- mismatches.
 pub record AreSeenBefore (place : ℕ) (words : List SeenWord) : Type 0 where
   pub begun : All (λ w. w.word * 64 < place) words
   pub free : All (λ w. (k : ℕ) → k < 64 → place ≤ w.word * 64 + k → bit_of w.seen k ≡ false) words
   pub few : (entry : List Bool) → seen_mismatches words entry ≤ place
 
--- The new words tell what the old ones do, and this of the bits from a place on.
+-- The new words have what the old ones have, and also what was seen of the bits starting at `place`, and nothing after
+-- these. The mismatches of each entry that has these bits are the sum of both.
 pub record IsSeenToo (old new : List SeenWord) (place : ℕ) (seen : List Seen) : Type 0 where
   pub before : AreSeenBefore (place + length seen) new
   pub counts : (entry : List Bool) → place + length seen ≤ length entry → seen_mismatches new entry ≡ seen_mismatches old entry + differing_bits seen (drop place entry)
 
--- The new word tells what the old one does, and this bit too.
+-- The new word has what the old one has, and bit `at` is seen as `one`.
 pub record IsBitSeen (old new : SeenWord) (at : ℕ) (one : Bool) : Type 0 where
   pub word : new.word ≡ old.word
   pub seen : (k : ℕ) → k < 64 → bit_of new.seen k ≡ (if k == at then true else bit_of old.seen k)
   pub ones : (k : ℕ) → k < 64 → bit_of new.ones k ≡ (if k == at then one else bit_of old.ones k)
 
--- The words tell what the lines tell of an entry of the dictionary.
+-- The words have what the lines say of an entry of the dictionary: each entry has as many mismatches with the words as
+-- with the lines.
 pub record AreWordsOf (d : Dict) (lines : List Line) (words : List SeenWord) : Type 0 where
   pub before : AreSeenBefore (entry_width d.kind d.patterns d.positions) words
   pub counts : (entry : List Bool) → length entry ≡ entry_width d.kind d.patterns d.positions → seen_mismatches words entry ≡ entry_mismatches d lines entry

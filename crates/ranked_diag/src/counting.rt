@@ -1,4 +1,4 @@
-//! Mismatches of all fault numbers.
+//! The mismatches of all fault numbers: a count for each entry, and from it one for each number.
 
 ghost use Rattle.std.specs.Prelude.{◌≡◌, ◌<◌, ◌^◌, All, length, map, slice_index, IfOk};
 ghost use Rattle.dict_rows.specs.Dictionary.{IsGroupedDict, IsShaped};
@@ -14,7 +14,7 @@ use dict_rows::Dict;
 use net_model::AnswerRows;
 use std::alloc::{AllocError, Global};
 
-/// How many bits that were seen differ from each number's entry.
+/// Returns for each fault number how many bits of its entry differ from what the partial log says of them.
 pub fn mismatches(alloc: Global, dict: &Dict, partial: &Partial) -> Result<Counts, AllocError>
     requires grouped { IsGroupedDict dict.now }
     requires shaped { IsShaped dict.now }
@@ -26,7 +26,7 @@ pub fn mismatches(alloc: Global, dict: &Dict, partial: &Partial) -> Result<Count
     number_counts(alloc, dict.groups.as_slice(), counts.as_slice())
 }
 
-// The count of each entry.
+// Returns the count of each entry.
 fn entry_counts(
     alloc: Global,
     entries: &AnswerRows,
@@ -36,7 +36,7 @@ fn entry_counts(
     ensures { IfOk result (λ counts. counts.items ≡ map (seen_mismatches words.now) entries.now) }
 {
     let rows = entries.rows();
-    // (a width is a usize, and so no count is above it)
+    // A width is a `usize`, so no count is above it.
     let _width = entries.width();
     let mut counts = Vec::with_capacity(alloc, rows)?;
     for row in 0..rows {
@@ -45,7 +45,7 @@ fn entry_counts(
     Ok(counts)
 }
 
-// The count of each number is that of its group.
+// Returns the count of each number, which is that of its group.
 fn number_counts(alloc: Global, groups: &[u32], counts: &[u64]) -> Result<Counts, AllocError>
     requires { All (λ group. group < length counts.now) groups.now }
     ensures { IfOk result (λ numbered. numbered ≡ map (slice_index counts.now) groups.now) }

@@ -11,7 +11,7 @@ use diagnose::LogKind;
 use std::alloc::{AllocError, Global};
 use text_fields::{cut, number_of_bytes};
 
-/// A line of a partial log and what stands behind it.
+/// A line of a partial log, and what is after it.
 #[derive(Clone, Copy)]
 pub(crate) struct PartialLine<'a> {
     pub(crate) pattern: u32,
@@ -19,7 +19,8 @@ pub(crate) struct PartialLine<'a> {
     pub(crate) rest: &'a [u8],
 }
 
-/// The line that a text begins with, where its pattern may come behind those before it, which is from `least` on.
+/// Returns the line that `rest` begins with if its pattern is in `least..patterns` and it has a digit for each
+/// position, and else the rule that is broken.
 pub(crate) fn right_line(
     patterns: u32,
     positions: u32,
@@ -41,7 +42,7 @@ pub(crate) fn right_line(
     Ok(line)
 }
 
-// The line that a text begins with.
+// Returns the line that a text begins with, or none if it begins with no line of a partial log.
 fn first_line(text: &[u8]) -> Option<PartialLine<'_>>
     ensures { MatchOption result (HasNoPartial text.now) (λ line. BeginsWithPartial text.now (line.pattern, digits_seen line.digits.now) line.rest.now) }
 {
@@ -54,7 +55,7 @@ fn first_line(text: &[u8]) -> Option<PartialLine<'_>>
     })
 }
 
-// The pattern and the digits that a line spells.
+// Returns the pattern and the digits that a line spells.
 fn fields_of(line: &[u8]) -> Option<(u32, &[u8])>
     ensures { MatchOption result ((spelled : Line) → spelled.0 < 2 ^ 32 → partial_line spelled ≢ line.now) (λ fields. (fields.0 < 2 ^ 32) × (partial_line (fields.0, digits_seen fields.1.now) ≡ line.now)) }
 {
@@ -64,7 +65,7 @@ fn fields_of(line: &[u8]) -> Option<(u32, &[u8])>
     Some((pattern, digits))
 }
 
-// The digits of a field: all of it, but for a dash, where there are none.
+// Returns the digits of a field: the field itself, or no digits if it is a dash.
 fn digits_of(field: &[u8]) -> Option<&[u8]>
     ensures { MatchOption result ((seen : List Seen) → seen_text seen ≢ field.now) (λ digits. seen_text (digits_seen digits.now) ≡ field.now) }
 {
@@ -80,14 +81,14 @@ fn digits_of(field: &[u8]) -> Option<&[u8]>
     Some(field)
 }
 
-// Whether each byte is a digit of what was seen.
+// Returns whether each byte is a digit of what was seen: `0`, `1` or `x`.
 fn are_digits(field: &[u8]) -> bool
     ensures { IsTrue result ↔ EachIndex field.now (λ k. IsSeenDigit (slice_index field.now k)) }
 {
     field.iter().all(|b| *b == b'0' || *b == b'1' || *b == b'x')
 }
 
-/// What digits tell, each of its position.
+/// Returns what was seen at each position, by its digit.
 pub(crate) fn seen_of(alloc: Global, digits: &[u8]) -> Result<Vec<Seen>, AllocError>
     ensures { IfOk result (λ seen. seen.items ≡ digits_seen digits.now) }
 {
@@ -98,7 +99,6 @@ pub(crate) fn seen_of(alloc: Global, digits: &[u8]) -> Result<Vec<Seen>, AllocEr
     Ok(seen)
 }
 
-// What a digit tells.
 fn seen_by(digit: u8) -> Seen
     ensures { result ≡ digit_seen digit }
 {

@@ -6,7 +6,8 @@ ghost use Rattle.ranked_diag.specs.Ranked.{least, counted_numbers, IsRanking};
 use crate::ranks::{Counts, Ranking};
 use std::alloc::{AllocError, Global};
 
-/// The numbers whose count is at most so much above the least, by count and then by number.
+/// Returns the numbers whose count is at most `within` above the least, each with its count, ascending by count and
+/// then by number.
 pub fn ranking(alloc: Global, counts: &Counts, within: u32) -> Result<Ranking, AllocError>
     requires some { 0 < length counts.now }
     requires few { length counts.now < 2 ^ 32 }
@@ -19,7 +20,6 @@ pub fn ranking(alloc: Global, counts: &Counts, within: u32) -> Result<Ranking, A
     Ok(Ranking::from_ranks(ranks))
 }
 
-// The least of some counts.
 fn least_of(counts: &[u64]) -> u64
     requires { 0 < length counts.now }
     ensures { result ≡ least counts.now }
@@ -31,7 +31,7 @@ fn least_of(counts: &[u64]) -> u64
     lowest
 }
 
-// The counts that are at most so much above the lowest, each with its number.
+// Returns the counts that are at most `within` above the lowest, each with its number.
 fn ranks_near(
     alloc: Global,
     counts: &[u64],
@@ -50,7 +50,7 @@ fn ranks_near(
     Ok(ranks)
 }
 
-// Appends a rank where it is to be kept.
+// Appends the rank if it is kept.
 fn keep(ranks: &mut Vec<(u64, u32)>, rank: (u64, u32), kept: bool) -> Result<(), AllocError>
     ensures { OnOk result (ranks.new.items ≡ (if kept then ranks.old.items ++ rank ∷ [] else ranks.old.items)) }
 {

@@ -1,4 +1,4 @@
-//! What a partial log tells of the entries of a dictionary.
+//! What each line of a partial log says of an entry: of a full one its bits, of another one at most one bit.
 
 ghost use Rattle.std.specs.Prelude.{◌≡◌, ◌<◌, ◌*◌, [], ◌∷◌, length, nat_lt, IfOk, OnOk};
 ghost use Rattle.std.specs.List.{list_all};
@@ -15,7 +15,7 @@ use dict_rows::{Dict, DictKind};
 use net_model::AnswerRows;
 use std::alloc::{AllocError, Global};
 
-/// The words of an entry of which a partial log tells something, and what.
+/// Returns the bits of an entry that the partial log gives, in the words that have such a bit.
 pub(crate) fn observed_words(
     alloc: Global,
     dict: &Dict,
@@ -33,7 +33,7 @@ pub(crate) fn observed_words(
     Ok(words)
 }
 
-// Adds what a line tells of an entry, behind all others.
+// Adds what a line says of an entry, after all that was added before.
 fn see_line(
     words: &mut SeenWords,
     dict: &Dict,
@@ -56,7 +56,8 @@ fn see_line(
     }
 }
 
-// Whether what was seen differs from a row, as far as it tells.
+// Returns `One` if some bit that was seen differs from the row, `Zero` if all bits were seen and none differs, and else
+// `Unseen`.
 fn difference(rows: &AnswerRows, row: usize, seen: &[Seen]) -> Seen
     requires row { row < length rows.now }
     requires wide { length (row_at rows.now row) ≡ length seen.now }
@@ -71,7 +72,7 @@ fn difference(rows: &AnswerRows, row: usize, seen: &[Seen]) -> Seen
     Seen::Unseen
 }
 
-// Whether some bit that was seen differs from a row.
+// Returns whether some bit that was seen differs from the row.
 fn some_differs(rows: &AnswerRows, row: usize, seen: &[Seen]) -> bool
     requires row { row < length rows.now }
     requires wide { length (row_at rows.now row) ≡ length seen.now }
@@ -85,7 +86,7 @@ fn some_differs(rows: &AnswerRows, row: usize, seen: &[Seen]) -> bool
     false
 }
 
-// Whether a bit was seen and isn't this one.
+// Returns whether a bit was seen and isn't `bit`.
 fn is_other(seen: Seen, bit: bool) -> bool
     ensures { result ≡ differs seen bit }
 {
@@ -96,7 +97,6 @@ fn is_other(seen: Seen, bit: bool) -> bool
     }
 }
 
-// Whether all bits were seen.
 fn are_seen(seen: &[Seen]) -> bool
     ensures { result ≡ list_all is_seen seen.now }
 {
@@ -108,7 +108,6 @@ fn are_seen(seen: &[Seen]) -> bool
     true
 }
 
-// Whether a bit was seen.
 fn was_seen(seen: Seen) -> bool
     ensures { result ≡ is_seen seen }
 {

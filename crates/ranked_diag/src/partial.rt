@@ -29,14 +29,13 @@ impl Model for Partial {
 }
 
 impl Partial {
-    /// How many patterns were logged.
+    /// Returns how many patterns were logged.
     pub fn len(&self) -> usize
         ensures { result ≡ length self.now }
     {
         self.lines.len()
     }
 
-    // No patterns.
     pub(crate) fn new(alloc: Global) -> Partial
         ensures { result ≡ [] }
     {
@@ -44,14 +43,13 @@ impl Partial {
         Partial { lines }
     }
 
-    // One pattern more.
     pub(crate) fn push(&mut self, pattern: u32, seen: Vec<Seen>) -> Result<(), AllocError>
         ensures { OnOk result (self.new ≡ self.old ++ (pattern, seen.items) ∷ []) }
     {
         Ok(self.lines.push((pattern, seen))?)
     }
 
-    /// A pattern, and what was seen at each position.
+    /// Returns the pattern of line `at`, and what was seen at each position.
     pub fn line(&self, at: usize) -> (u32, &[Seen])
         requires { at < length self.now }
         ensures { slice_get self.now at ≡ Some (result.0, result.1.now) }

@@ -20,14 +20,14 @@ impl Model for Counts {
 }
 
 impl Counts {
-    /// How many fault numbers there are.
+    /// Returns how many fault numbers there are.
     pub fn len(&self) -> usize
         ensures { result ≡ length self.now }
     {
         self.counts.len()
     }
 
-    /// The count of a number.
+    /// Returns the count of a number.
     pub fn get(&self, number: u32) -> u64
         requires { number < length self.now }
         ensures { result ≡ slice_index self.now number }
@@ -35,7 +35,7 @@ impl Counts {
         self.counts[number as usize]
     }
 
-    // No counts, and room for so many.
+    // Returns no counts yet, with room for `numbers` of them.
     pub(crate) fn with_room(alloc: Global, numbers: usize) -> Result<Counts, AllocError>
         ensures { IfOk result (λ counts. counts ≡ []) }
     {
@@ -44,14 +44,12 @@ impl Counts {
         })
     }
 
-    // The count of the next number.
     pub(crate) fn push(&mut self, count: u64) -> Result<(), AllocError>
         ensures { OnOk result (self.new ≡ self.old ++ count ∷ []) }
     {
         Ok(self.counts.push(count)?)
     }
 
-    // The counts as a slice.
     pub(crate) fn as_slice(&self) -> &[u64]
         ensures { result.now ≡ self.now }
     {
@@ -74,14 +72,14 @@ impl Model for Ranking {
 }
 
 impl Ranking {
-    /// How many numbers are ranked.
+    /// Returns how many numbers are ranked.
     pub fn len(&self) -> usize
         ensures { result ≡ length self.now }
     {
         self.ranks.len()
     }
 
-    /// The count and the number at a place.
+    /// Returns the count and the number at place `at`.
     pub fn get(&self, at: usize) -> (u64, u32)
         requires { at < length self.now }
         ensures { slice_get self.now at ≡ Some result }
@@ -89,7 +87,6 @@ impl Ranking {
         self.ranks[at]
     }
 
-    // The ranking of these pairs, as they stand.
     pub(crate) fn from_ranks(ranks: Vec<(u64, u32)>) -> Ranking
         ensures { result ≡ ranks.items }
     {

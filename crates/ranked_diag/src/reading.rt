@@ -10,9 +10,9 @@ use diagnose::{LogFault, check_size};
 use dict_rows::Dict;
 use std::alloc::Global;
 
-/// The lines that a partial log tells, for a dictionary.
-///
-/// A log has at most `diagnose::TEXT_LIMIT` bytes. A fault tells the first line that breaks a rule.
+/// Returns the lines of a partial log for a dictionary. Memory aside, returns `At` with a kind and a line exactly if
+/// the text isn't a partial log for the dictionary's patterns and positions: it is longer than `diagnose::TEXT_LIMIT`
+/// bytes, or this is its first line that breaks a rule. The kind is `Syntax`, `Order`, `Width` or `TooLong`.
 pub fn read_partial(alloc: Global, dict: &Dict, bytes: &[u8]) -> Result<Partial, LogFault>
     ensures read { IfOk result (IsPartialLog dict.now.patterns dict.now.positions bytes.now) }
     ensures refused { IfErr result (TellsLogFault (PartialRefused dict.now.patterns dict.now.positions bytes.now)) }
@@ -20,9 +20,8 @@ pub fn read_partial(alloc: Global, dict: &Dict, bytes: &[u8]) -> Result<Partial,
     read_partial_of(alloc, dict.patterns, dict.positions, bytes)
 }
 
-/// The lines that a partial log tells, of so many patterns and positions.
-///
-/// A log has at most `diagnose::TEXT_LIMIT` bytes. A fault tells the first line that breaks a rule.
+/// Returns the lines of a partial log for the given numbers of patterns and positions, with the errors of
+/// `read_partial`.
 pub fn read_partial_of(
     alloc: Global,
     patterns: u32,

@@ -15,7 +15,7 @@ pub(crate) struct SeenWord {
 }
 
 impl SeenWord {
-    /// One bit more.
+    /// Returns the word with bit `at` seen as `one`.
     pub(crate) fn with(self, at: usize, one: bool) -> SeenWord
         requires { at < 64 }
         ensures { IsBitSeen self result at one }
@@ -27,7 +27,7 @@ impl SeenWord {
         }
     }
 
-    /// How many bits that were seen differ from the word of an entry.
+    /// Returns how many bits that were seen differ from `bits`, the same word of an entry.
     pub(crate) fn mismatches(self, bits: u64) -> u64
         ensures { (entry : List Bool) → IsWordOf entry self.word bits → result ≡ word_mismatches entry self }
     {

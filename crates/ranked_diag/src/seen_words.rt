@@ -1,4 +1,4 @@
-//! What was seen of an entry.
+//! The words of an entry in which a bit was seen, and how many of these bits differ from a row.
 
 ghost use Rattle.std.specs.Prelude.{◌≡◌, ◌+◌, ◌<◌, ◌^◌, [], ◌∷◌, length, slice_index_or, OnOk, IfSome};
 ghost use Rattle.net_model.specs.Rows.{row_at};
@@ -12,7 +12,7 @@ use net_model::AnswerRows;
 use std::alloc::{AllocError, Global};
 use std::marker::Model;
 
-/// The words of an entry of which a bit was seen, and no others.
+/// The words of an entry in which a bit was seen, and no others.
 #[derive(Drop)]
 pub(crate) struct SeenWords {
     words: Vec<SeenWord>,
@@ -28,7 +28,6 @@ impl Model for SeenWords {
 }
 
 impl SeenWords {
-    /// Nothing was seen.
     pub(crate) fn new(alloc: Global) -> SeenWords
         ensures { result ≡ [] }
     {
@@ -36,7 +35,7 @@ impl SeenWords {
         SeenWords { words }
     }
 
-    /// Adds what was seen of the bits from a place on, behind all others.
+    /// Adds what was seen of the bits starting at `place`, after all that was added before.
     pub(crate) fn see(&mut self, place: usize, seen: &[Seen]) -> Result<(), AllocError>
         requires before { AreSeenBefore place self.old }
         requires room { place + length seen.now < 2 ^ 64 }
@@ -48,7 +47,7 @@ impl SeenWords {
         Ok(())
     }
 
-    /// Adds what was seen of the bit at a place, behind all others.
+    /// Adds what was seen of the bit at `place`, after all that was added before.
     pub(crate) fn see_one(&mut self, place: usize, seen: Seen) -> Result<(), AllocError>
         requires { AreSeenBefore place self.old }
         ensures { OnOk result (IsSeenToo self.old self.new place (seen ∷ [])) }
@@ -60,7 +59,6 @@ impl SeenWords {
         }
     }
 
-    // Adds a bit that was seen.
     fn see_bit(&mut self, place: usize, one: bool) -> Result<(), AllocError>
         requires { AreSeenBefore place self.old }
         ensures { OnOk result (IsSeenToo self.old self.new place (seen_of one ∷ [])) }
@@ -83,7 +81,7 @@ impl SeenWords {
         }
     }
 
-    // Where the last word stands, if it is this one.
+    // Returns the place of the last word if it is word `word`.
     fn last_in(&self, word: usize) -> Option<usize>
         ensures { IfSome result (λ last. (last < length self.now) × ((d : SeenWord) → (slice_index_or self.now last d).word ≡ word)) }
     {
@@ -94,7 +92,7 @@ impl SeenWords {
         None
     }
 
-    /// How many bits that were seen differ from a row.
+    /// Returns how many bits that were seen differ from the row.
     pub(crate) fn count(&self, rows: &AnswerRows, row: usize) -> u64
         requires row { row < length rows.now }
         requires wide { length (row_at rows.now row) < 2 ^ 64 }

@@ -1,4 +1,4 @@
-// Files of the system and standard output.
+//! `RealShelf`: files of the system and standard output.
 ghost use Rattle.std.specs.Prelude.{◌≡◌, ◌≤◌, ◌<◌, None, IfOk, IfSome};
 ghost use Rattle.diag_shelf.specs.Calls.{Rose};
 
@@ -7,7 +7,9 @@ use std::io::{Read, Write};
 use std::rt::Files;
 use std::{fs, io};
 
-/// A shelf of real files and standard output. It tells no contents.
+/// A shelf of real files and standard output. It tells no contents, so that only what `Shelf` says of counts holds for
+/// it. Each call returns `Failed` if the system returns an error, a device takes none of a piece, or no file is opened
+/// or created, and its count rises each time.
 #[derive(Drop)]
 pub struct RealShelf<'a, R: Files + Print> {
     rt: &'a R,
@@ -18,7 +20,7 @@ pub struct RealShelf<'a, R: Files + Print> {
 }
 
 impl<'a, R: Files + Print> RealShelf<'a, R> {
-    /// A shelf that has failed in no call, with no file opened or created.
+    /// Returns a shelf that has failed in no call, with no file opened or created.
     pub fn new(rt: &'a R) -> RealShelf<'a, R>
         ensures opened { result.opened ≡ None }
         ensures written { result.written ≡ None }
@@ -35,7 +37,7 @@ impl<'a, R: Files + Print> RealShelf<'a, R> {
     }
 }
 
-// A call failed. Its count rises, and stands still at its last value.
+// Raises the count of a call that failed, up to the counter's last value.
 fn failed(count: &mut u64) -> ShelfFault
     ensures rose { Rose count.old count.new }
     ensures later { count.old ≤ count.new }
@@ -45,7 +47,7 @@ fn failed(count: &mut u64) -> ShelfFault
     ShelfFault::Failed
 }
 
-// A device that takes none of a piece has failed.
+// Returns how many bytes were taken, or none if the device failed. A device that takes none of a piece has failed.
 fn taken(answer: io::Result<usize>, offered: usize) -> Option<usize>
     requires { IfOk answer (λ count. count ≤ offered) }
     ensures bound { IfSome result (λ count. count ≤ offered) }

@@ -47,7 +47,7 @@ true_within values l t = by values l.variable (true_is values l t)
     by (v ∷ values) zero e = omega arith
     by (v ∷ values) (suc k) e = omega (arith, by values k e)
 
--- where no literal is true, all are open
+-- if no literal is true, all are open
 pub none_true : (values : List (Option Bool)) → ((l : Literal) → IsTrueAt values l → ⊥) → (l : Literal) → IsLiteralOpen values l
 none_true values none l = by (value_at values l) refl
   where
@@ -99,7 +99,7 @@ module _ (a : Assignment) (is : IsAssignment a) (x : Literal) (within : x.variab
     room = omega (arith, is.room, room, ap length values, length-set a.values.items x.variable (Some x.positive));
   }
 
--- ---- letting go
+-- ---- literals are dropped
 
 -- What is true is listed, and what is listed has a place.
 pub record IsListed (values : List (Option Bool)) (trail : List Literal) : Type 0 where

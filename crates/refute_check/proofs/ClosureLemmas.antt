@@ -29,7 +29,7 @@ module _ (clauses : List Clause) (at : Literal) where
     closes = λ held c. second.closes held (first.closes held c);
   }
 
--- ---- what a set of literals holds that closes the true ones
+-- ---- what a set of literals that closes the true ones holds
 
 module _ (clauses : List Clause) (at : Literal) (values : List (Option Bool)) (held : List Literal) (closure : IsClosure clauses at values held) where
   holds_opposite : (l : Literal) → IsLiteralFalse values l → Contains held (opposite l)
@@ -95,7 +95,7 @@ unit_within clauses clause unit before after all is_in is size =
 
 -- ---- the clause's other literals
 
--- What is true before a place of the clause: the other literals there are false, and no more literals are true.
+-- What is true before place `k` of the clause: its other literals there are false, and no more literals are true.
 pub record AreOthersFalseBefore (clause : Clause) (at : Literal) (k : ℕ) (values : List (Option Bool)) : Type 0 where
   pub at_open : IsLiteralOpen values at
   pub others : (j : ℕ) (d : Literal) → j < k → get_or clause j d ≢ at → IsLiteralFalse values (get_or clause j d)

@@ -12,7 +12,7 @@ use Rattle.clause_pool.specs.Clauses.{Clause}
 use Rattle.clause_pool.proofs.Literals.{same_literals, same_or_opposite, same_by_code}
 use Rattle.refute_check.specs.Held.{IsTrueAt, IsLiteralFalse, IsLiteralOpen}
 
--- a literal whose number is found in the clause stands there
+-- a literal whose code is found in the clause is in the clause
 pub contained : (clause : Clause) (at : Literal) (found : Bool) → IsAnyAnswer (λ l t. eqb (code_of l) (code_of at) ≡ t) clause found → found ≡ true → Contains clause at
 contained clause at true is t = (is.0, is.1, same_by_code (get_or clause is.0 at) at (eqb-true (code_of (get_or clause is.0 at)) (code_of at) (is.2 at)))
 contained clause at false is t = cc

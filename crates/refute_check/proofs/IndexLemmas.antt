@@ -13,7 +13,7 @@ use Rattle.net_model.proofs.Elements.{none_in}
 use Rattle.refute_check.specs.Index.{HasTwo, IsIndexOf, IsClauseNumber, list_at}
 use Rattle.refute_check.proofs.AssignmentLemmas.{last_in, only_in}
 
--- The number stands in the lists of the first literals, and besides it the lists have what they had.
+-- The lists of the first literals have the number, and otherwise the lists are as they were.
 pub record IsAdded (number : ℕ) (clause : Clause) (i : ℕ) (old new : List (List ℕ)) : Type 0 where
   pub places : length new ≡ length old
   pub kept : (place n : ℕ) → Contains (list_at old place) n → Contains (list_at new place) n

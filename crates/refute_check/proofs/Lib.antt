@@ -1,3 +1,5 @@
+pub mod Sets
+pub mod Resolvents
 pub mod Alike
 pub mod Chains
 pub mod LogSteps

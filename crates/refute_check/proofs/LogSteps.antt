@@ -1,4 +1,4 @@
--- One chain of a log after another, over a pool whose clauses count as those of the miter and the ends so far.
+-- One chain of a log after another, over a pool that has the miter's clauses and the ends so far.
 use Rattle.std.proofs.Common.{◌≡◌, ◌≢◌, ◌∙◌, ℕ, ◌+◌, ◌<◌, ◌≤◌, ◌++◌, List, [], ◌∷◌, length, get_or, refl, sym, ap, subst, arith}
 use Rattle.std.specs.Prelude.{Bool, true, false, Option, Some, slice_get, All}
 use Rattle.std.proofs.lemmas.List.{append_assoc}
@@ -37,11 +37,11 @@ ends_none kind clauses log = record {
   alike = subst (λ ends. AreAlike (clauses ++ ends) clauses) (sym (first_ends kind clauses log)) (alike_first clauses);
 }
 
--- nor where the log is refused for its number of chains
+-- nor if the log is refused for its number of chains
 pub ends_uncounted : (kind : EvidenceKind) (clauses : List Clause) (log : List ChainView) (step : ℕ) {refusal : Refusal} → record { kind = WrongCount; step = step } ≡ refusal → HasEndsOf clauses log (right_chains refusal) clauses
 ends_uncounted kind clauses log step is = subst (λ (r : Refusal). HasEndsOf clauses log (right_chains r) clauses) is (ends_none kind clauses log)
 
--- A chain stands at a place of a log. The chains before it are right, and a pool has the clauses and their ends.
+-- The chain is at this place of the log, the chains before it are right, and the pool has the clauses and their ends.
 pub record IsNext (kind : EvidenceKind) (clauses : List Clause) (log : List ChainView) (at : ℕ) (chain : ChainView) (pool : List Clause) : Type 0 where
   pub before : AreRightBefore kind clauses log at
   pub chain_is : slice_get log at ≡ Some chain
@@ -52,11 +52,11 @@ pub next_chain : {kind : EvidenceKind} {clauses : List Clause} {log : List Chain
 next_chain {log = log} {at = at} {chain = chain} inside is before are =
     record { before = before; chain_is = slice_get_read log (length log) at chain refl inside is; are = are inside }
 
--- what is told of an end, by what is answered
+-- what is said of an end, by what is returned
 pub rule_told : (kind : EvidenceKind) (last : Bool) (pool : List Clause) (chain : ChainView) (literals : Clause) {rule found : Option RefusalKind} → rule ≡ found → IsRuleFor kind last pool chain literals rule → IsRuleFor kind last pool chain literals found
 rule_told kind last pool chain literals is told = subst (IsRuleFor kind last pool chain literals) is told
 
--- a chain that stops, or ends wrong, tells no number of chains
+-- a chain that stops, or has a wrong end, isn't refused for a number of chains
 stopped_before : {pool : List Clause} {chain : ChainView} {rule : RefusalKind} (step : ℕ) → ChainStops pool chain rule → chains_before rule step ≡ step
 stopped_before step (no_start none is) = ap (λ rule. chains_before rule step) is
 stopped_before step (no_clause at s clause here there none is) = ap (λ rule. chains_before rule step) is

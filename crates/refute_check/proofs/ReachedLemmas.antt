@@ -26,7 +26,7 @@ get_or_more (x ∷ xs) d (suc k) = get_or_more xs d k
 
 -- ---- marks
 
--- a literal's mark is taken away, and the others stay
+-- a literal's mark is removed, and the others stay
 unmarked_here : (marks : List Bool) (p : ℕ) → bit_at (set marks p false) p ≡ false
 unmarked_here marks p = elim (cases_lt p (length marks)) [
   | inl low ↦ get_or-set_same marks p false false low
@@ -106,9 +106,9 @@ module _ (r : Reached) (clause other : Clause) (pivot : Literal) (is : IsReached
   pub cannot_mark : bit_at r.marks.items (code_of pivot) ≡ false → can_resolve pivot clause other ≡ false
   cannot_mark unset = ap (λ (b : Bool). b && has_literal other (opposite pivot)) (unmarked_not (has_literal clause pivot) refl unset)
 
--- ---- the set is taken out, literal by literal
+-- ---- the literals are taken out of the set, one by one
 
--- Each literal of the clause is marked yet or kept, and only those are.
+-- Each literal of the clause is still marked or is kept, and no other literal is.
 pub record IsTaken (clause : Clause) (r : Reached) (kept : List Literal) : Type 0 where
   pub all : (l : Literal) → Contains clause l → (bit_at r.marks.items (code_of l) ≡ true) ⊎ Contains kept l
   pub kept_in : (l : Literal) → Contains kept l → Contains clause l

@@ -1,4 +1,4 @@
--- Which clauses are settled, as unit propagation goes along the lists.
+-- Which clauses are settled, while unit propagation visits the lists.
 use Rattle.std.proofs.Common.{◌≡◌, ◌≢◌, ◌∙◌, ◌⊎◌, ℕ, ◌<◌, ◌≤◌, ◌+◌, ◌-◌, inl, inr, refl, sym, ap, arith, subst, get_or, take, drop, drop-drop, take-append-drop, length-append}
 use Rattle.std.specs.Prelude.{Bool, true, false, List, [], ◌∷◌, ◌++◌, length, Option, None, Some, Contains, All}
 use Rattle.std.proofs.lemmas.List.{drop-append-le, drop_more, drop_all, get_or_default, length-set}
@@ -22,7 +22,7 @@ use Rattle.refute_check.proofs.AssignmentLemmas.{last_in}
 
 -- ---- one clause
 
--- a clause with two different literals, of which each that is false is so by a literal that is to come
+-- a clause with two different literals, each of which, if it is false, is so by a literal still to be visited
 two_settled : (values : List (Option Bool)) (coming : List Literal) (numbers : List ℕ) (number : ℕ) (clause : Clause) (l m : Literal) → l ≢ m → Contains clause l → Contains clause m
     → (IsLiteralFalse values l → Contains coming (opposite l)) → (IsLiteralFalse values m → Contains coming (opposite m)) → IsClauseSettled values coming numbers number clause
 two_settled values coming numbers number clause l m ne in_l in_m false_l false_m = by (value_at values l) refl (value_at values m) refl
@@ -97,7 +97,7 @@ module _ (variables : ℕ) (clauses : List Clause) (lists : List (List ℕ)) (sh
     | inr m ↦ listed m
   ]
 
-  -- the turn of the literal at a place comes: the clauses with its opposite are to be looked at
+  -- the literal at the place is visited: the clauses with its opposite are to be looked at
   pub turn : (a : Assignment) (from : ℕ) (p q : Literal) → from < length a.trail.items → p ≡ get_or a.trail.items from p → q ≡ opposite p → AreClausesSettled clauses a from [] → AreClausesSettled clauses a (from + 1) (list_at lists (code_of q))
   turn a from p q h p_is q_is settled k inside = by (settled k inside)
     where
@@ -111,7 +111,7 @@ module _ (variables : ℕ) (clauses : List Clause) (lists : List (List ℕ)) (sh
       ]
       by (listed m) = absurd (none_in (k + 1) m)
 
-  -- nothing is to come
+  -- nothing is still to be visited
   pub all_quiet : (a : Assignment) (from : ℕ) → length a.trail.items ≤ from → AreClausesSettled clauses a from [] → All (IsQuietAt a.values.items) clauses
   all_quiet a from h settled k d inside = subst (IsQuietAt a.values.items) (get_or_default clauses k [] d inside) (by (settled k inside))
     where
@@ -156,7 +156,7 @@ module _ (clauses : List Clause) (at : Literal) (numbers : List ℕ) (from : ℕ
           (is.settled all k low);
     }
 
-    -- the clause is quiet now, and maybe a literal more is held
+    -- the clause is quiet now, and perhaps one more literal is held
     module _ (before mid after : Assignment) (looked new : Looked) (is : HasSeen clauses at numbers from i before mid looked) (more : HoldsMore mid after) (quiets : (k : ℕ) → n ≡ k + 1 → IsQuietAt after.values.items (get_or clauses k [])) where
       looked_more : length new.stamps.items ≡ length looked.stamps.items → ((other s : ℕ) → IsLookedAt new other s → IsLookedAt looked other s ⊎ ((other ≡ n) × (s ≤ length after.trail.items))) → AreLooked clauses after new
       looked_more room noted = record {
@@ -184,7 +184,7 @@ module _ (clauses : List Clause) (at : Literal) (numbers : List ℕ) (from : ℕ
 
 -- ---- the whole of unit propagation
 
--- The lists of the literals before a place have been gone over.
+-- The lists of the literals before a place have been visited.
 pub record HasGone (clauses : List Clause) (at : Literal) (head : ℕ) (before after : Assignment) (looked : Looked) : Type 0 where
   pub assignment : IsAssignment after
   pub step : IsStep clauses at before.values.items after.values.items

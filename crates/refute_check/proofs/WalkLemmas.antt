@@ -1,4 +1,4 @@
--- A walk through a tree: what is right at its cube, and how it goes on.
+-- A walk through a tree: what is right at its cube, and how it continues.
 use Rattle.std.proofs.Common.{◌≡◌, ℕ, zero, suc, ◌+◌, ◌<◌, List, [], ◌∷◌, ◌++◌, length, take, drop, below_more, refl, sym, ◌∙◌, ap, subst, arith}
 use Rattle.std.specs.Prelude.{Bool, true, false, Option, None, Some, Vec, slice_get, reverse, cond, is_some, option_map, find, ◌==◌, ◌||◌, if◌then◌else◌}
 use Rattle.std.specs.List.{list_any}
@@ -87,7 +87,7 @@ module _ (walk : Walk) (w : IsTreeWalk walk) where
 
 -- ---- the way up
 
--- A walk stands higher up, and as many second halves wait as at first.
+-- The walk is higher up, and as many second halves wait as at first.
 pub record GoesUp (start now : Walk) : Type 0 where
   pub walk : IsTreeWalk now
   pub same : now.sim ≡ with_cube start.sim now.sim.cube
@@ -131,7 +131,7 @@ module _ (start walk : Walk) (up : GoesUp start walk) (rest : Vec (ℕ × Bool) 
 
 -- ---- the whole tree
 
--- The tokens before a step are right, and the walk stands behind them.
+-- The tokens before the step are right, and the walk is after them.
 pub record HasCome (c : Circuit) (f g : Fault) (tokens : List Token) (step : ℕ) (walk : Walk) : Type 0 where
   pub walk_is : IsTreeWalk walk
   pub same : walk.sim ≡ pair_sim c f g walk.sim.cube

@@ -5,11 +5,11 @@ use Rattle.clause_pool.specs.Literal.{Literal}
 use Rattle.refute_check.specs.declared.assignment.Assignment.{Assignment}
 use Rattle.refute_check.specs.Held.{IsTrueAt}
 
--- how many variables have no value
+-- How many variables have no value.
 abbrev pub unset_count : List (Option Bool) → ℕ
 unset_count values = count_by is_none values
 
--- The true literals are those of the list, each once, and there is room in it for one of each variable.
+-- The true literals are those of the list, each once, and the list has room for one literal of each variable.
 pub record IsAssignment (a : Assignment) : Type 0 where
   pub listed : (l : Literal) → IsTrueAt a.values.items l → Contains a.trail.items l
   pub held : (l : Literal) → Contains a.trail.items l → IsTrueAt a.values.items l

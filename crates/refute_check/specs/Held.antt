@@ -7,17 +7,19 @@ use Rattle.clause_pool.specs.Clauses.{Clause}
 use Rattle.refute_check.specs.declared.assignment.Look.{Look}
 use Rattle.refute_check.specs.declared.assignment.Look.TheVariants.{Quiet, Unit, False}
 
--- whether a literal is true, or false, where its variable has a value
+-- Whether the literal is true or false, or none if its variable has no value.
 abbrev pub value_at : List (Option Bool) → Literal → Option Bool
 value_at values l = option_map (λ bit. beq bit l.positive) (slice_index_or values l.variable None)
 
--- A literal is true, or false, or undetermined.
+-- The literal is true.
 abbrev pub IsTrueAt : List (Option Bool) → Literal → Type 0
 IsTrueAt values l = value_at values l ≡ Some true
 
+-- The literal is false.
 abbrev pub IsLiteralFalse : List (Option Bool) → Literal → Type 0
 IsLiteralFalse values l = value_at values l ≡ Some false
 
+-- The literal is undetermined.
 abbrev pub IsLiteralOpen : List (Option Bool) → Literal → Type 0
 IsLiteralOpen values l = value_at values l ≡ None
 
@@ -32,7 +34,8 @@ pub record IsUnitAt (values : List (Option Bool)) (clause : Clause) (unit : Lite
   pub is_open : IsLiteralOpen values unit
   pub others : (l : Literal) → Contains clause l → (l ≡ unit → ⊥) → IsLiteralFalse values l
 
--- what is found at a clause
+-- What is found at the clause: it is quiet, or the literal at this place is open and all others are false, or all are
+-- false.
 abbrev pub IsLook : List (Option Bool) → Clause → Look → Type 0
 IsLook values clause Quiet = IsQuietAt values clause
 IsLook values clause (Unit place) = (place < length clause) × HoldsAt (IsUnitAt values clause) clause place

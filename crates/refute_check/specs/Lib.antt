@@ -1,3 +1,4 @@
+pub mod ClauseView
 pub mod Closure
 pub mod Held
 pub mod Assignment

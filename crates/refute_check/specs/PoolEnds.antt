@@ -7,17 +7,18 @@ use Rattle.evidence_rules.specs.declared.refusal.Refusal.{Refusal}
 use Rattle.evidence_rules.specs.declared.refusal.RefusalKind.{RefusalKind}
 use Rattle.evidence_rules.specs.declared.refusal.RefusalKind.TheVariants.{NoSuchClause, NoPivot, NotEmpty, EmptyEarly, NotFresh, LeafOpen, BadTree, WrongCount}
 
--- The pool has the clauses, and behind them the ends of the log's first chains, so many of them, and no other clause.
+-- The pool has the clauses, and after them the ends of the log's first `count` chains, and no other clause.
 pub record HasEndsOf (clauses : List Clause) (log : List ChainView) (count : ℕ) (pool : List Clause) : Type 0 where
   pub ends : List Clause
   pub are : log_ends clauses (take count log) ≡ Some ends
   pub alike : AreAlike (clauses ++ ends) pool
 
--- The same for some number of chains.
+-- The pool has the clauses, and after them the ends of some number of the log's first chains.
 abbrev pub HasSomeEnds : List Clause → List ChainView → List Clause → Type 0
 HasSomeEnds clauses log pool = (count : ℕ) × HasEndsOf clauses log count pool
 
--- how many chains are right before a log is refused: none for its number of chains, else those before the named one
+-- How many chains are right before a log is refused: none for a wrong number of chains, else those before the named
+-- one.
 abbrev pub chains_before : RefusalKind → ℕ → ℕ
 chains_before NoSuchClause step = step
 chains_before NoPivot step = step
@@ -28,5 +29,6 @@ chains_before LeafOpen step = step
 chains_before BadTree step = step
 chains_before WrongCount step = 0
 
+-- How many chains are right before a log is refused so.
 abbrev pub right_chains : Refusal → ℕ
 right_chains refusal = chains_before refusal.kind refusal.step

@@ -12,28 +12,30 @@ use Rattle.refute_check.specs.Held.{IsLiteralOpen, IsQuietAt}
 use Rattle.refute_check.specs.Index.{IsIndexOf}
 use Rattle.refute_check.specs.Looked.{IsLookedAt}
 
--- Unit propagation has nothing to do at a clause, or one of its literals is false by a literal whose turn is to come, or the clause's number is among those to come.
+-- Unit propagation has nothing to do at the clause, or one of its literals is false by a literal that is still to be
+-- visited, or the clause's number is among those still to be visited.
 pub data IsClauseSettled (values : List (Option Bool)) (coming : List Literal) (numbers : List ℕ) (number : ℕ) (clause : Clause) : Type 0 where
   quiet : IsQuietAt values clause → IsClauseSettled values coming numbers number clause
   falsified : (l : Literal) → Contains clause l → Contains coming (opposite l) → IsClauseSettled values coming numbers number clause
   listed : Contains numbers number → IsClauseSettled values coming numbers number clause
 
--- It is so at each clause, where the literals from a place on are to come.
+-- Each clause is settled if the literals from place `from` up, and the clauses of these numbers, are still to be
+-- visited.
 abbrev pub AreClausesSettled : List Clause → Assignment → ℕ → List ℕ → Type 0
 AreClausesSettled clauses a from numbers = (k : ℕ) → k < length clauses → IsClauseSettled a.values.items (drop from a.trail.items) numbers (k + 1) (slice_index_or clauses k [])
 
--- Nothing more is held, or one literal that was undetermined.
+-- Nothing more is held, or one more literal that was undetermined.
 pub data HoldsMore (before after : Assignment) : Type 0 where
   nothing : after ≡ before → HoldsMore before after
   one : (l : Literal) → l.variable < length before.values.items → IsLiteralOpen before.values.items l → after.values.items ≡ slice_set before.values.items l.variable (Some l.positive) → after.trail.items ≡ before.trail.items ++ l ∷ [] → HoldsMore before after
 
--- Where a clause was looked at, unit propagation has something to do there only by the literals that were held later.
+-- At a clause that was looked at, unit propagation has something to do only by literals that were held later.
 pub record AreLooked (clauses : List Clause) (a : Assignment) (looked : Looked) : Type 0 where
   pub room : length looked.stamps.items ≡ length clauses + 1
   pub earlier : (number at : ℕ) → IsLookedAt looked number at → at ≤ length a.trail.items
   pub settled : (k at : ℕ) → k < length clauses → IsLookedAt looked (k + 1) at → IsClauseSettled a.values.items (drop at a.trail.items) [] (k + 1) (slice_index_or clauses k [])
 
--- Nothing is held, no clause was looked at, and the clauses have their index.
+-- No literal is held, no clause was looked at, and the index is that of the clauses.
 pub record IsPropagatorReady (variables : ℕ) (clauses : List Clause) (p : Propagator) : Type 0 where
   pub assignment : IsAssignment p.held
   pub size : length p.held.values.items ≡ variables + 1
@@ -42,6 +44,6 @@ pub record IsPropagatorReady (variables : ℕ) (clauses : List Clause) (p : Prop
   pub unlooked : (number at : ℕ) → ¬ IsLookedAt p.looked number at
   pub index : IsIndexOf variables clauses p.index.lists p.index.short.items
 
--- It is so where this kind of evidence needs unit propagation.
+-- The propagator is ready if this kind of evidence needs unit propagation.
 abbrev pub IsReadyFor : EvidenceKind → ℕ → List Clause → Propagator → Type 0
 IsReadyFor kind variables clauses p = kind ≡ Spent → IsPropagatorReady variables clauses p

@@ -8,8 +8,8 @@ ghost use Rattle.refute_check.specs.Held.{IsLook, IsLiteralOpen, value_at};
 use clause_pool::Lit;
 use std::alloc::{AllocError, Global};
 
-/// What unit propagation finds at a clause: a literal is held or two are undetermined; or the literal at this place is
-/// undetermined and all others are false; or all are false.
+/// What unit propagation finds at a clause: a literal is held or two are undetermined (`Quiet`); or the literal at
+/// this place is undetermined and all others are false (`Unit`); or all are false (`False`).
 #[derive(Clone, Copy)]
 pub(crate) enum Look {
     Quiet,
@@ -17,8 +17,8 @@ pub(crate) enum Look {
     False,
 }
 
-/// The values of variables by number, none where the variable is undetermined, and the literals that are held, in the order
-/// in which they became so. Number 0 is no variable.
+/// The values of variables by number, or none if the variable is undetermined, and the literals that are held, in the
+/// order in which they became so. Number 0 is no variable.
 #[derive(Drop)]
 pub(crate) struct Assignment {
     pub(crate) values: Vec<Option<bool>>,
@@ -26,7 +26,7 @@ pub(crate) struct Assignment {
 }
 
 impl Assignment {
-    /// All variables up to this number are undetermined.
+    /// Returns the assignment of variables 0 to `variables`, all of them undetermined.
     pub(crate) fn new(alloc: Global, variables: u32) -> Result<Assignment, AllocError>
         ensures assignment { IfOk result IsAssignment }
         ensures size { IfOk result (λ assignment. length assignment.values.items ≡ variables + 1) }
@@ -39,7 +39,7 @@ impl Assignment {
         })
     }
 
-    /// Whether the literal is true, or false, or none.
+    /// Returns whether the literal is true or false, or none if its variable is undetermined.
     pub(crate) fn value(&self, lit: Lit) -> Option<bool>
         requires { lit.variable < length self.now.values.items }
         ensures { result ≡ value_at self.now.values.items lit }
@@ -48,7 +48,7 @@ impl Assignment {
         Some(value == lit.positive())
     }
 
-    /// Holds a literal that is undetermined. It takes no memory.
+    /// Holds a literal that is undetermined. Allocates no memory.
     pub(crate) fn hold(&mut self, lit: Lit)
         requires assignment { IsAssignment self.old }
         requires within { lit.variable < length self.old.values.items }
@@ -61,7 +61,7 @@ impl Assignment {
         self.trail.push_reserved(lit);
     }
 
-    /// Lets go of all literals, along the list of those that are held.
+    /// Drops all literals, along the list of those that are held.
     pub(crate) fn clear(&mut self)
         requires { IsAssignment self.old }
         ensures assignment { IsAssignment self.new }
@@ -73,7 +73,7 @@ impl Assignment {
         }
     }
 
-    /// What unit propagation finds at a clause.
+    /// Returns what unit propagation finds at the clause.
     pub(crate) fn look(&self, clause: &[Lit]) -> Look
         requires { All (λ (l : Literal). l.variable < length self.now.values.items) clause.now }
         ensures { IsLook self.now.values.items clause.now result }

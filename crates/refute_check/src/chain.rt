@@ -1,4 +1,4 @@
-//! The end of a chain of resolutions.
+//! `run_chain`, the end of a chain of resolutions; `follow`, the same over a set that serves all chains of a log.
 
 ghost use Rattle.std.specs.Prelude.{◌≡◌, [], None, Some, IfOk, OnOk, IsErrOf, MatchOption};
 ghost use Rattle.clause_pool.specs.Clauses.{numbered_clause};
@@ -6,15 +6,16 @@ ghost use Rattle.evidence_rules.specs.declared.refusal.RefusalKind.{RefusalKind}
 ghost use Rattle.evidence_rules.specs.LogRefusal.{ChainStops, EndsAs};
 ghost use Rattle.refute_check.specs.Reached.{IsReached};
 
+use crate::clause::Clause;
 use crate::reached::Reached;
 use crate::refusal::ChainFault;
 use clause_pool::{Lit, Pool};
-use literal_sets::Clause;
 use pair_miter::Chain;
 use std::alloc::Global;
 
-/// The last clause of a chain over the clauses of a pool, as a set. Where a clause isn't there, or can't be resolved with,
-/// the first such step is answered: of one step the number of its clause is tried before its pivot.
+/// Returns the last clause of a chain over the clauses of the pool, as a set. Returns `NoSuchClause` or `NoPivot`
+/// exactly if the first step that can't be made has this fault: no clause has its number, or the two clauses can't be
+/// resolved at its pivot. In one step the number is tried before the pivot.
 pub fn run_chain(alloc: Global, pool: &Pool, chain: &Chain) -> Result<Clause, ChainFault>
     ensures ended { IfOk result (λ clause. EndsAs pool.now.clauses chain.now clause.literals) }
     ensures no_clause { IsErrOf result ChainFault.NoSuchClause → ChainStops pool.now.clauses chain.now RefusalKind.NoSuchClause }
@@ -23,7 +24,8 @@ pub fn run_chain(alloc: Global, pool: &Pool, chain: &Chain) -> Result<Clause, Ch
     follow(alloc, &mut Reached::new(alloc), pool, chain)
 }
 
-/// The last clause of a chain, as `run_chain` answers it. The set that is passed is empty, and is so again.
+/// Returns the last clause of a chain, with the errors of `run_chain`. `reached` is empty before, and is empty again
+/// if the call returns no error.
 pub(crate) fn follow(
     alloc: Global,
     reached: &mut Reached,
@@ -49,7 +51,7 @@ pub(crate) fn follow(
     Ok(reached.finish(alloc)?)
 }
 
-// The clause of a number, where there is one.
+// Returns the clause of this number, if there is one.
 fn named<'a>(pool: &'a Pool, number: u32) -> Option<&'a [Lit]>
     ensures { MatchOption result (numbered_clause pool.now.clauses number ≡ None) (λ clause. numbered_clause pool.now.clauses number ≡ Some clause.now) }
 {

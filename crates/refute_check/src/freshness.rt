@@ -1,4 +1,5 @@
-//! Clauses that tell unit propagation something new.
+//! `fresh`, by unit propagation along the clauses of each literal: whether a clause adds something to unit
+//! propagation.
 
 ghost use Rattle.std.specs.Prelude.{◌≡◌, ◌↔◌, ◌<◌, ◌≤◌, ◌+◌, ◌∷◌, [], ◌++◌, ℕ, List, All, IsTrue, IsFalse, IfOk, OnOk, length, slice_index_or};
 ghost use Rattle.clause_pool.specs.Clauses.{Clause};
@@ -19,8 +20,9 @@ use crate::looked::Looked;
 use clause_pool::{Lit, Pool};
 use std::alloc::{AllocError, Global};
 
-/// Whether a clause is fresh at one of its literals over the clauses of a pool: whether unit propagation, once the
-/// clause's other literals are false, leaves that literal undetermined and finds no false clause.
+/// Returns true exactly if the clause is fresh at its literal `at` over the clauses of the pool: when the clause's
+/// other literals are false, unit propagation leaves `at` undetermined and finds no false clause. Returns false also
+/// if the clause doesn't have the literal.
 ///
 /// All variables are from 1 to `variables`.
 pub fn fresh(
@@ -39,7 +41,7 @@ pub fn fresh(
     Ok(propagator.fresh(pool, variables, clause, at))
 }
 
-/// Unit propagation over the clauses of a pool. Nothing is held between its calls.
+/// Unit propagation over the clauses of a pool. No literal is held between its calls.
 #[derive(Drop)]
 pub(crate) struct Propagator {
     pub(crate) looked: Looked,
@@ -48,7 +50,7 @@ pub(crate) struct Propagator {
 }
 
 impl Propagator {
-    /// A propagator for the clauses of a pool, whose variables are from 1 to `variables`.
+    /// Returns a propagator for the clauses of the pool, whose variables are from 1 to `variables`.
     pub(crate) fn new(alloc: Global, pool: &Pool, variables: u32) -> Result<Propagator, AllocError>
         requires { All (HasVariablesUpTo variables) pool.now.clauses }
         ensures { IfOk result (IsPropagatorReady variables pool.now.clauses) }
@@ -60,7 +62,7 @@ impl Propagator {
         })
     }
 
-    /// A propagator for no clauses.
+    /// Returns a propagator for no clauses.
     pub(crate) fn idle(alloc: Global) -> Result<Propagator, AllocError> {
         Ok(Propagator {
             looked: Looked::none(alloc, 0)?,
@@ -69,7 +71,7 @@ impl Propagator {
         })
     }
 
-    /// Takes the clause of a number into account, the next one of the pool.
+    /// Adds the next clause of the pool, which has this number.
     pub(crate) fn add(&mut self, clause: &[Lit], number: u32) -> Result<(), AllocError>
         requires { All (λ l. code_of l < length self.old.index.lists) clause.now }
         ensures { OnOk result ((variables : ℕ) (clauses : List Clause) → length clauses + 1 ≡ number → IsPropagatorReady variables clauses self.old → IsPropagatorReady variables (clauses ++ clause.now ∷ []) self.new) }
@@ -79,7 +81,7 @@ impl Propagator {
         Ok(())
     }
 
-    /// Whether a clause is fresh at one of its literals. It takes no memory.
+    /// Returns whether the clause is fresh at its literal `at`. Allocates no memory.
     pub(crate) fn fresh(&mut self, pool: &Pool, variables: u32, clause: &[Lit], at: Lit) -> bool
         requires ready { IsPropagatorReady variables pool.now.clauses self.old }
         requires pool { All (HasVariablesUpTo variables) pool.now.clauses }
@@ -106,7 +108,8 @@ impl Propagator {
     }
 }
 
-// Holds the opposites of the clause's other literals, unless no set of literals can.
+// Holds the opposites of the clause's other literals. Returns false if no set of literals can hold them and leave
+// `at` undetermined.
 fn hold_others(held: &mut Assignment, clause: &[Lit], at: Lit) -> bool
     requires assignment { IsAssignment held.old }
     requires at { at.variable < length held.old.values.items }
@@ -133,9 +136,9 @@ fn hold_others(held: &mut Assignment, clause: &[Lit], at: Lit) -> bool
     true
 }
 
-// Holds all that unit propagation asks for. Answers whether it leaves the literal undetermined and no clause false.
+// Holds all that unit propagation forces. Returns whether it leaves `at` undetermined and no clause false.
 //
-// A clause is looked at once for all literals of its own that were false by then.
+// A clause is looked at once for all of its literals that were false by then.
 fn close(
     held: &mut Assignment,
     looked: &mut Looked,
@@ -179,8 +182,9 @@ fn close(
     true
 }
 
-// Looks at the clauses of these numbers that weren't looked at while at least so many literals were held, and holds what unit
-// propagation asks for there. Answers whether it leaves the literal undetermined and none of these clauses is false.
+// Looks at the clauses of these numbers, except those that were looked at while at least `from` literals were held,
+// and holds what unit propagation forces there. Returns whether it leaves `at` undetermined and none of these clauses
+// is false.
 fn visit(
     held: &mut Assignment,
     looked: &mut Looked,
@@ -217,8 +221,8 @@ fn visit(
     true
 }
 
-// Looks at a clause, and holds what unit propagation asks for there. Answers whether it leaves the literal undetermined and the
-// clause isn't false.
+// Looks at the clause, and holds what unit propagation forces there. Returns whether it leaves `at` undetermined and
+// the clause isn't false.
 fn settle(held: &mut Assignment, pool: &Pool, number: u32, at: Lit) -> bool
     requires assignment { IsAssignment held.old }
     requires pool { All (All (λ (l : Literal). l.variable < length held.old.values.items)) pool.now.clauses }

@@ -10,8 +10,9 @@ use clause_pool::{Lit, Pool};
 use net_model::GrowingLists;
 use std::alloc::{AllocError, Global};
 
-/// The clauses of a pool by their literals, and those of them that don't have two different literals. Unit propagation
-/// finds something at the latter from the start, and at the others only once a literal of theirs is false.
+/// The clauses of a pool by their literals, and those of them that don't have two different literals. Unit
+/// propagation can find something at the latter from the start, and at the others only after one of their literals is
+/// false.
 #[derive(Drop)]
 pub(crate) struct Index {
     // by the literal's code
@@ -20,7 +21,7 @@ pub(crate) struct Index {
 }
 
 impl Index {
-    /// The index of no clauses, with a list for each literal of the variables up to this number.
+    /// Returns the index of no clauses, with a list for each literal of variables 0 to `variables`.
     pub(crate) fn none(alloc: Global, variables: u32) -> Result<Index, AllocError>
         ensures { IfOk result (λ index. IsIndexOf variables [] index.lists index.short.items) }
     {
@@ -30,7 +31,7 @@ impl Index {
         })
     }
 
-    /// The index of the clauses of a pool, with a list for each literal of the variables up to this number.
+    /// Returns the index of the clauses of the pool, with a list for each literal of variables 0 to `variables`.
     pub(crate) fn of(alloc: Global, pool: &Pool, variables: u32) -> Result<Index, AllocError>
         requires { All (HasVariablesUpTo variables) pool.now.clauses }
         ensures { IfOk result (λ index. IsIndexOf variables pool.now.clauses index.lists index.short.items) }
@@ -42,7 +43,7 @@ impl Index {
         Ok(index)
     }
 
-    /// Adds the clause of a number, the next one.
+    /// Adds the next clause, which has this number.
     pub(crate) fn add(&mut self, clause: &[Lit], number: u32) -> Result<(), AllocError>
         requires { All (λ l. code_of l < length self.old.lists) clause.now }
         ensures { OnOk result ((variables : ℕ) (clauses : List Clause) → length clauses + 1 ≡ number → IsIndexOf variables clauses self.old.lists self.old.short.items → IsIndexOf variables (clauses ++ clause.now ∷ []) self.new.lists self.new.short.items) }
@@ -57,7 +58,7 @@ impl Index {
     }
 }
 
-// Whether a clause has two different literals.
+// Returns true only if the clause has two different literals.
 fn has_two(clause: &[Lit]) -> bool
     ensures { IsTrue result → HasTwo clause.now }
 {

@@ -15,19 +15,22 @@ ghost use Rattle.refute_check.specs.Propagation.{IsPropagatorReady, IsReadyFor};
 ghost use Rattle.refute_check.specs.Reached.{IsReached};
 
 use crate::chain::follow;
+use crate::clause::Clause;
 use crate::freshness::Propagator;
 use crate::reached::Reached;
 use crate::refusal::ChainFault;
 use clause_pool::{Lit, Pool};
 use evidence_rules::{CheckFault, EvidenceKind, RefusalKind, refused};
-use literal_sets::Clause;
 use pair_miter::{Chain, Log, Miter};
 use std::alloc::{AllocError, Global};
 
-/// Checks the log of evidence over the clauses of a miter, with a budget of so many clauses that aren't empty. It is accepted
-/// exactly where it is what this kind of evidence needs; else its number of chains is answered, or the first chain that
-/// breaks a rule. The ends of the chains before that one, or before the last of a right log, then stand in the pool behind the
-/// miter's clauses, and after want of memory those of some first chains. The pool grew only where it had no room for them.
+/// Checks the log of evidence over the clauses of the miter, with a budget of `conflicts` clauses that aren't empty.
+/// Returns `Refused` with a kind and a step exactly if the log isn't what this kind of evidence needs: its number of
+/// chains is wrong, else a chain is the first that can't be followed or has a wrong end. The step is then the number
+/// of chains, or the place of that chain, counted from 0. The pool has the miter's clauses before and after. After
+/// them it then has the ends of the chains before the last one of a right log, of those before the wrong chain, none
+/// for a wrong number of chains, or, if memory is missing, of some of the first chains. The pool keeps its places,
+/// and grows only if they were too few for these clauses, to no more than they need.
 pub fn check_log(
     alloc: Global,
     miter: &Miter,
@@ -101,7 +104,7 @@ fn check_chains(
     Ok(())
 }
 
-// Whether the log may have so many chains.
+// Returns whether a log of this kind may have as many chains as these.
 fn has_right_length(kind: EvidenceKind, chains: &[Chain], conflicts: u32) -> bool
     ensures { IsTrue result ↔ HasRightLength kind conflicts chains.now }
 {
@@ -112,7 +115,7 @@ fn has_right_length(kind: EvidenceKind, chains: &[Chain], conflicts: u32) -> boo
     }
 }
 
-// A propagator for the clauses of a pool, where this kind of evidence needs one.
+// Returns a propagator for the clauses of the pool if this kind of evidence needs one, else one for no clauses.
 fn propagator_for(
     alloc: Global,
     pool: &Pool,
@@ -128,7 +131,7 @@ fn propagator_for(
     Propagator::idle(alloc)
 }
 
-// Takes the clause of a number into account, the next one of the pool, where this kind of evidence needs it.
+// Adds the next clause of the pool, which has this number, to the propagator if this kind of evidence needs one.
 fn take_in(
     propagator: &mut Propagator,
     kind: EvidenceKind,
@@ -144,7 +147,7 @@ fn take_in(
     propagator.add(clause, number)
 }
 
-// The end of the chain at a place of the log.
+// Returns the end of the chain, which is at place `at` of the log.
 fn end_of(
     alloc: Global,
     reached: &mut Reached,
@@ -165,7 +168,7 @@ fn end_of(
     }
 }
 
-// The rule that the end of a chain breaks, if it breaks one.
+// Returns the rule that the end of the chain breaks, if it breaks one.
 fn wrong_end(
     propagator: &mut Propagator,
     pool: &Pool,
@@ -203,7 +206,7 @@ fn wrong_end(
     })
 }
 
-// Whether the end of a chain is fresh at the chain's literal.
+// Returns whether the end of the chain is fresh at the chain's literal.
 fn ends_fresh(
     propagator: &mut Propagator,
     pool: &Pool,

@@ -5,16 +5,18 @@ ghost use Rattle.refute_check.specs.Looked.{IsLookedAt};
 
 use std::alloc::{AllocError, Global};
 
-/// How many literals were held when a clause was looked at last, for each clause that was looked at since all was forgotten.
+/// How many literals were held when a clause was looked at last, for each clause that was looked at since all was
+/// forgotten.
 #[derive(Drop)]
 pub(crate) struct Looked {
     pub(crate) base: usize,
-    // by the clause's number; up to the base where it wasn't looked at, else the number of literals and one more above it
+    // by the clause's number: at most `base` if the clause wasn't looked at, else `base` plus the number of literals
+    // and one
     pub(crate) stamps: Vec<usize>,
 }
 
 impl Looked {
-    /// None of so many clauses was looked at.
+    /// Returns the state in which none of `clauses` clauses was looked at.
     pub(crate) fn none(alloc: Global, clauses: u32) -> Result<Looked, AllocError>
         ensures room { IfOk result (λ looked. length looked.stamps.items ≡ clauses + 1) }
         ensures none { IfOk result (λ looked. (number held : ℕ) → ¬ IsLookedAt looked number held) }
@@ -25,7 +27,7 @@ impl Looked {
         })
     }
 
-    /// Takes one more clause into account, which wasn't looked at.
+    /// Adds one more clause, which wasn't looked at.
     pub(crate) fn add(&mut self) -> Result<(), AllocError>
         ensures room { OnOk result (length self.new.stamps.items ≡ length self.old.stamps.items + 1) }
         ensures none { OnOk result ((number held : ℕ) → IsLookedAt self.new number held → IsLookedAt self.old number held) }
@@ -34,7 +36,7 @@ impl Looked {
         Ok(())
     }
 
-    /// Whether a clause was looked at while at least so many literals were held.
+    /// Returns true only if the clause was looked at while at least `held` literals were held.
     pub(crate) fn since(&self, number: u32, held: usize) -> bool
         requires { number < length self.now.stamps.items }
         ensures { IsTrue result → (at : ℕ) × (held ≤ at) × IsLookedAt self.now number at }
@@ -47,7 +49,7 @@ impl Looked {
         }
     }
 
-    /// Notes that a clause is looked at while so many literals are held.
+    /// Notes that the clause is looked at while `held` literals are held.
     pub(crate) fn note(&mut self, number: u32, held: usize)
         requires { number < length self.old.stamps.items }
         ensures room { length self.new.stamps.items ≡ length self.old.stamps.items }
@@ -56,7 +58,7 @@ impl Looked {
         self.stamps[number as usize] = self.base.saturating_add(held).saturating_add(1);
     }
 
-    /// Forgets all, where no more literals than these were held at any time.
+    /// Forgets all. At no time were more than `held` literals held.
     pub(crate) fn forget(&mut self, held: usize)
         requires { (number at : ℕ) → IsLookedAt self.old number at → at ≤ held }
         ensures room { length self.new.stamps.items ≡ length self.old.stamps.items }

@@ -1,4 +1,4 @@
-//! The clause that a chain has reached, while the chain is followed.
+//! The clause that a chain has reached so far.
 
 ghost use Rattle.std.specs.Prelude.{◌≡◌, ◌+◌, ◌<◌, ◌++◌, ◌∷◌, [], true, false, IfOk, OnOk, IsErrOf, length, slice_set};
 ghost use Rattle.net_model.specs.Answer.{bit_at};
@@ -7,23 +7,23 @@ ghost use Rattle.clause_pool.specs.LiteralCode.{code_of};
 ghost use Rattle.pair_miter.specs.Resolution.{can_resolve, resolvent, SameLiterals};
 ghost use Rattle.refute_check.specs.Reached.{IsReached};
 
+use crate::clause::Clause as Ordered;
 use crate::refusal::ChainFault;
 use clause_pool::Lit;
-use literal_sets::Clause as Ordered;
 use std::alloc::{AllocError, Global};
 
-/// A set of literals in no order: those that are marked. A resolution takes time in the clause that is resolved with, whatever
-/// the set has.
+/// A set of literals in no order: those that are marked. The time of a resolution depends only on the other clause,
+/// not on the size of the set.
 #[derive(Drop)]
 pub(crate) struct Reached {
-    // by the literal's place, where it has one
+    // by the literal's code, if it has a mark
     pub(crate) marks: Vec<bool>,
-    // each literal that was added, maybe more than once
+    // each literal that was added, perhaps more than once
     pub(crate) listed: Vec<Lit>,
 }
 
 impl Reached {
-    /// The empty set.
+    /// Returns the empty set.
     pub(crate) fn new(alloc: Global) -> Reached
         ensures { IsReached result [] }
     {
@@ -44,7 +44,8 @@ impl Reached {
         Ok(())
     }
 
-    /// Resolves the set with a clause. Nothing is said of the set after an error.
+    /// Resolves the set with the clause `other` at the pivot. Returns `NoPivot` only if they can't be resolved there.
+    /// Nothing is said of the set after an error.
     pub(crate) fn resolve(&mut self, pivot: Lit, other: &[Lit]) -> Result<(), ChainFault>
         ensures resolved { OnOk result ((clause : Clause) → IsReached self.old clause → (can_resolve pivot clause other.now ≡ true) × IsReached self.new (resolvent pivot clause other.now)) }
         ensures no_clause { ¬ IsErrOf result ChainFault.NoSuchClause }
@@ -67,7 +68,7 @@ impl Reached {
         Ok(())
     }
 
-    /// The set in order. The set that is left is empty.
+    /// Returns the set in order, and leaves the empty set.
     pub(crate) fn finish(&mut self, alloc: Global) -> Result<Ordered, AllocError>
         ensures ended { IfOk result (λ end. (clause : Clause) → IsReached self.old clause → SameLiterals end.literals clause) }
         ensures empty { OnOk result ((clause : Clause) → IsReached self.old clause → IsReached self.new []) }
@@ -83,7 +84,7 @@ impl Reached {
         Ok(Ordered::of(kept))
     }
 
-    /// Whether a literal is in the set.
+    /// Returns whether the literal is in the set.
     pub(crate) fn has(&self, lit: Lit) -> bool
         ensures { result ≡ bit_at self.now.marks.items (code_of lit) }
     {
@@ -91,7 +92,6 @@ impl Reached {
         at < self.marks.len() && self.marks[at]
     }
 
-    // Adds a literal.
     fn add(&mut self, lit: Lit) -> Result<(), AllocError>
         ensures { OnOk result ((clause : Clause) → IsReached self.old clause → IsReached self.new (clause ++ lit ∷ [])) }
     {
@@ -104,7 +104,7 @@ impl Reached {
         Ok(())
     }
 
-    // Makes a place for the mark of a literal.
+    // Makes a place for the mark of the literal.
     fn make_place(&mut self, lit: Lit) -> Result<(), AllocError>
         ensures place { OnOk result (code_of lit < length self.new.marks.items) }
         ensures kept { OnOk result ((clause : Clause) → IsReached self.old clause → IsReached self.new clause) }
@@ -115,7 +115,6 @@ impl Reached {
         Ok(())
     }
 
-    // Takes a literal away.
     fn remove(&mut self, lit: Lit)
         ensures marks { self.new.marks.items ≡ slice_set self.old.marks.items (code_of lit) false }
         ensures listed { self.new.listed.items ≡ self.old.listed.items }

@@ -3,11 +3,11 @@
 ghost use Rattle.std.specs.Prelude.{◌≡◌};
 ghost use Rattle.refute_check.specs.declared.refusal.ChainFault.TheVariants as chain;
 
-use literal_sets::NoPivot;
+use crate::clause::NoPivot;
 use std::alloc::AllocError;
 use thiserror::Error;
 
-/// Why a chain has no end.
+/// Why a chain has no end: a step can't be made, or memory is missing.
 #[derive(Debug, Drop, Error)]
 pub enum ChainFault {
     #[error("no clause has the number")]

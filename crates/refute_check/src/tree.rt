@@ -19,9 +19,10 @@ use pair_sets::{PairSim, PairState, Token, Tree};
 use std::alloc::{AllocError, Global};
 use std::marker::Model;
 
-/// Checks the tree of evidence about two faults, with a budget of so many closed leaves. It is accepted exactly where it is
-/// what this kind of evidence needs; else the first token that breaks a rule is answered, or that the tree isn't whole, or
-/// that the counts are wrong.
+/// Checks the tree of evidence about two faults, with a budget of `cubes` closed leaves. Returns `Refused` with a
+/// kind and a step exactly if the tree isn't what this kind of evidence needs: a token is the first wrong one, else
+/// the tree isn't whole, else its counts are wrong. The step is the place of that token, counted from 0, or else the
+/// number of tokens.
 pub fn check_tree(
     alloc: Global,
     circuit: &Circuit,
@@ -40,8 +41,8 @@ pub fn check_tree(
     trees.check(f, g, tree, kind, cubes)
 }
 
-/// Checks trees of evidence about pairs of a circuit's faults, one after another. What a tree is simulated with is made for the
-/// first that needs it and kept for those that follow, so that each costs what its two faults reach.
+/// Checks trees of evidence about pairs of a circuit's faults, one after another. The simulation is made for the
+/// first tree that needs it and kept for later ones, so that each costs what its two faults reach.
 #[derive(Drop)]
 pub struct TreeChecker<'a> {
     alloc: Global,
@@ -61,7 +62,7 @@ impl<'a> Model for TreeChecker<'a> {
 }
 
 impl<'a> TreeChecker<'a> {
-    /// The checker of trees about faults of a circuit.
+    /// Returns a checker of trees about faults of the circuit.
     pub fn new(alloc: Global, circuit: &'a Circuit) -> TreeChecker<'a>
         ensures { result ≡ circuit.now }
     {
@@ -72,7 +73,7 @@ impl<'a> TreeChecker<'a> {
         }
     }
 
-    /// Checks a tree as `check_tree` does.
+    /// Checks a tree as `check_tree` does, with the same errors. The circuit stays the same, also after an error.
     pub fn check(
         &mut self,
         f: &Fault,
@@ -96,7 +97,7 @@ impl<'a> TreeChecker<'a> {
         Ok(())
     }
 
-    // The walk at the root of a tree about two faults: the kept one where there is one.
+    // Returns the walk at the root of a tree about two faults: the kept one if there is one.
     fn begin(&mut self, f: &Fault, g: &Fault) -> Result<Walk<'a>, AllocError>
         requires first { IsFaultOf self.old f.now }
         requires second { IsFaultOf self.old g.now }
@@ -114,7 +115,7 @@ impl<'a> TreeChecker<'a> {
     }
 }
 
-// Whether a tree is one open leaf. It is right at any cube, so nothing is simulated for it.
+// Returns true only if the tree is one open leaf. This is right at any cube, so nothing is simulated for it.
 fn is_open_leaf(tree: &Tree) -> bool
     ensures { IsTrue result → tree.now ≡ Rest ∷ [] }
 {
@@ -134,8 +135,8 @@ fn check_open_leaf(tokens: &[Token], kind: EvidenceKind, cubes: u32) -> Result<(
     }
 }
 
-// A cube on the way through a tree: the splits above it with their bits, the last one last. Once the tree is whole there is
-// none.
+// A cube on the way through a tree: the splits above it with their bits, the last one last. There is none when the
+// tree is whole.
 #[derive(Drop)]
 struct Walk<'a> {
     sim: PairSim<'a>,
@@ -146,7 +147,7 @@ struct Walk<'a> {
 }
 
 impl<'a> Walk<'a> {
-    // A walk for trees about faults of a circuit.
+    // Returns a walk for trees about faults of the circuit.
     fn new(alloc: Global, circuit: &'a Circuit) -> Result<Walk<'a>, AllocError>
         ensures { IfOk result (IsWalkFor circuit.now) }
     {
@@ -175,7 +176,8 @@ impl<'a> Walk<'a> {
         self.whole = false;
     }
 
-    // Goes through the whole tree from its root, and checks it as `check_tree` does. A right one leaves a walk for further trees.
+    // Goes through the whole tree from its root, and checks it as `check_tree` does. A right tree leaves a walk that
+    // serves further trees.
     fn check(&mut self, tokens: &[Token], kind: EvidenceKind, cubes: u32) -> Result<(), CheckFault>
         requires walk { IsTreeWalk self.old }
         requires root { waiting_in self.old ≡ [] ∷ [] }
@@ -198,7 +200,7 @@ impl<'a> Walk<'a> {
         Ok(())
     }
 
-    // The rule that a token breaks at the cube, if it breaks one.
+    // Returns the rule that the token breaks at the cube, if it breaks one.
     fn wrong(&self, token: Token) -> Option<RefusalKind>
         requires { IsTreeWalk self.now }
         ensures { IsVerdict self.now token result }
@@ -222,7 +224,7 @@ impl<'a> Walk<'a> {
         }
     }
 
-    // Whether a source can be split at the cube.
+    // Whether the source can be split at the cube.
     fn can_split(&self, source: u32) -> bool
         requires { IsTreeWalk self.now }
         ensures { IsTrue result ↔ IsRightAt self.now.sim.circuit self.now.sim.f self.now.sim.g (Split source) self.now.sim.cube }
@@ -233,7 +235,6 @@ impl<'a> Walk<'a> {
             && self.is_undecided()
     }
 
-    // Whether the cube is undecided.
     fn is_undecided(&self) -> bool
         requires { IsTreeWalk self.now }
         ensures { IsTrue result ↔ IsState self.now.sim.circuit self.now.sim.f self.now.sim.g self.now.sim.cube Undecided }
@@ -241,7 +242,7 @@ impl<'a> Walk<'a> {
         matches!(self.sim.state(), PairState::Undecided)
     }
 
-    // Goes on to the cube of the next token.
+    // Continues to the cube of the next token.
     fn go_on(&mut self, token: Token) -> Result<(), AllocError>
         requires walk { IsTreeWalk self.old }
         requires right { IsRightIn self.old token }
@@ -264,7 +265,8 @@ impl<'a> Walk<'a> {
         Ok(())
     }
 
-    // Goes up to the last split of whose second half nothing is read, and to that half. If there is none the tree is whole.
+    // Goes up to the last split whose second half wasn't visited yet, and to that half. If there is none the tree is
+    // whole.
     fn go_up(&mut self) -> Result<(), AllocError>
         requires walk { IsTreeWalk self.old }
         requires inside { self.old.whole ≡ false }
@@ -283,7 +285,7 @@ impl<'a> Walk<'a> {
     }
 }
 
-// Whether a path has a split of a source.
+// Whether the path has a split of the source.
 fn is_on_path(path: &[(u32, bool)], source: u32) -> bool
     ensures { result ≡ list_any (λ half. half.0 == source) path.now }
 {
@@ -302,7 +304,7 @@ fn has_right_counts(tokens: &[Token], kind: EvidenceKind, cubes: u32) -> bool
     }
 }
 
-// How many closed leaves a tree has.
+// The number of closed leaves of the tree.
 fn closed_leaves(tokens: &[Token]) -> usize
     ensures { result ≡ closed_count tokens.now }
 {

@@ -38,21 +38,21 @@ is_simple Grade = refl
 is_simple TopUp = refl
 is_simple Bridges = refl
 
--- a command with an argument more
+-- a command with one more argument
 pub added : {old new : Command} {arg : Arg} {app : App} {rule : Rule} → AddsArg old arg new → app_of old ≡ app → rule_of arg ≡ rule → arg.global ≡ false → app_of new ≡ with_rule app rule
 added adds app_is rule_is local = adds.shape local ∙ ap₂ with_rule app_is rule_is
 
--- and one whose last argument is added by the call that gives it
+-- a command whose last argument is added by the call that returns it
 pub added_last : {E : Type 0} (old : Command) (arg : Arg) {app : App} {rule : Rule} (r : Result Command E) → IfOk r (λ new. AddsArg old arg new)
     → app_of old ≡ app → rule_of arg ≡ rule → arg.global ≡ false → IfOk r (λ new. app_of new ≡ with_rule app rule)
 added_last old arg {app} {rule} r adds app_is rule_is local =
     IfOk-weaker r (λ new. AddsArg old arg new) (λ new. app_of new ≡ with_rule app rule) (λ new one. added one app_is rule_is local) adds
 
--- and one that gets more rules, by a function of what it has
+-- a command that gets more rules, by a function of what it has
 pub more_rules : {E : Type 0} (old : Command) {app : App} (more : App → App) (r : Result Command E) → app_of old ≡ app → IfOk r (λ new. app_of new ≡ more (app_of old)) → IfOk r (λ new. app_of new ≡ more app)
 more_rules old {app} more r is = IfOk-weaker r (λ new. app_of new ≡ more (app_of old)) (λ new. app_of new ≡ more app) (λ new e. e ∙ ap more is)
 
--- and one that gets a rule more, by a call that gives it
+-- a command that gets one more rule, by a call that returns it
 pub rule_more : {E : Type 0} (old : Command) {app : App} (rule : Rule) (r : Result Command E) → app_of old ≡ app → IfOk r (λ new. app_of new ≡ with_rule (app_of old) rule) → IfOk r (λ new. app_of new ≡ with_rule app rule)
 rule_more old {app} rule r is = more_rules old (λ (a : App). with_rule a rule) r is
 
@@ -76,7 +76,7 @@ module _ (verb : Verb) (words : List Text) where
   pub asked_refused : fault_of (app_for verb) words ≢ [] → asked_by (Some verb) words ≡ None
   asked_refused some = ap asked_where (some_fault (fault_of (app_for verb) words) some)
 
--- an error that isn't want of memory has a kind
+-- an error other than missing memory has a kind
 pub kind_left : (kinds : Kinds) (error : Error) → HasKind kinds error → kind_of error ≢ OutOfMemory → kinds ≢ []
 kind_left [] error (inl memory) other none = absurd (other memory)
 kind_left [] error (inr among) other none = absurd among

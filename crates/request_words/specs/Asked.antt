@@ -1,4 +1,4 @@
--- The request that the code's own type stands for.
+-- What a request of the code's own type asks for.
 use Rattle.std.specs.Prelude.{◌≤◌}
 use Rattle.result_records.specs.Limits.{AreWithinLimits}
 use Rattle.request_words.specs.Request as spec

@@ -1,4 +1,4 @@
--- What the words ask for. Each command's words behind its first are read by one simple command of `clap`.
+-- What the words ask for. The first word is a command, and a simple command of `clap` reads the words after it.
 use Rattle.std.specs.Prelude.{ℕ, List, [], ◌∷◌, Option, Some, None, codes, if◌then◌else◌, option_map}
 use Rattle.std.specs.Option.{option_map_or}
 use Rattle.std.specs.Str.{bytes_eq}
@@ -11,6 +11,8 @@ use Rattle.request_words.specs.declared.request.Verb.{Verb}
 use Rattle.request_words.specs.declared.request.Verb.TheVariants.{Gen, Check, Dict, Convert, Diagnose, Faults, Sim, Synth, Compact, Rank, Adapt, Follow, Expect, Suspects, Cover, Grade, TopUp, Bridges}
 use Rattle.request_words.specs.declared.request.EntryKind.{EntryKind}
 
+-- what words can ask for: one kind for each command, with its names and numbers, except that `grade` and `topup` share
+-- one, and one more for each command that takes `--applied`
 pub data Request : Type 0 where
   -- generate a result for a netlist, with these budgets
   gen : (bench result : Text) (budgets : Budgets) → Request
@@ -18,7 +20,7 @@ pub data Request : Type 0 where
   check : (bench result : Text) → Request
   -- make a dictionary of a kind for a netlist and a result
   make_dict : (kind : EntryKind) (bench result dict : Text) → Request
-  -- write a dictionary anew
+  -- write a dictionary again under a new name
   convert : (old new : Text) → Request
   -- list the numbers that a dictionary and a log point to
   diagnose : (dict log : Text) → Request
@@ -30,23 +32,24 @@ pub data Request : Type 0 where
   synth : (n : ℕ) (bench result : Text) → Request
   -- leave out the patterns of a result that its classes don't need, for a netlist
   compact : (bench result new : Text) → Request
-  -- rank the numbers by a dictionary and a partial log, up to so many mismatches above the least
+  -- rank the numbers by a dictionary and a partial log, up to `within` mismatches above the least
   rank : (dict log : Text) (within : ℕ) → Request
   -- plan which pattern to ask next, for a netlist and a result
   adapt : (bench result plan : Text) → Request
-  -- tell where a log of answers leads in a plan
+  -- say where a log of answers leads in a plan
   follow : (plan log : Text) → Request
   -- write the log that a chip without a fault gives, for a netlist and a result
   expect : (bench result log : Text) → Request
-  -- list the classes that a partial log suspects, so many at the most, for a netlist and a result
+  -- list the classes that a partial log suspects, at most `most` of them, for a netlist and a result
   suspects : (bench result log : Text) (most : ℕ) → Request
   -- list classes that together explain what fails in a partial log, for a netlist and a result
   cover : (bench result log : Text) → Request
-  -- keep of a list of vectors those that split a class, and generate a result behind them, for a netlist, with these budgets
+  -- keep each vector of a list that splits a class, and generate a result after them, for a netlist, with these budgets
   top_up : (bench vectors result : Text) (budgets : Budgets) → Request
-  -- list bridges, so many at the most, that explain all failing patterns of a partial log but so many, for a netlist and a result
+  -- list bridges, at most `most` of them, that explain all failing patterns of a partial log except at most `within`,
+  -- for a netlist and a result
   bridges : (bench result log : Text) (most within : ℕ) → Request
-  -- the same as `expect`, `suspects`, `cover` and `bridges`, of a list of vectors that were applied
+  -- the same as `expect`, `suspects`, `cover` and `bridges`, for a list of vectors that were applied
   expect_at : (bench result log vectors : Text) → Request
   suspects_at : (bench result log : Text) (most : ℕ) (vectors : Text) → Request
   cover_at : (bench result log vectors : Text) → Request
@@ -71,7 +74,7 @@ check_by rows = check (name_in (codes "bench") rows) (name_in (codes "result") r
 unfoldable pub dict_app : App
 dict_app = with_rule (with_rule (two_names_app (codes "dict") (codes "kind") (codes "bench")) (name_rule (codes "result"))) (name_rule (codes "dict"))
 
--- its kind has to be one that is known
+-- none unless the word names a kind
 abbrev pub dict_by : List Row → Option Request
 dict_by rows = option_map (λ kind. make_dict kind (name_in (codes "bench") rows) (name_in (codes "result") rows) (name_in (codes "dict") rows)) (kind_named (name_in (codes "kind") rows))
 
@@ -129,15 +132,15 @@ follow_app = two_names_app (codes "follow") (codes "plan") (codes "log")
 abbrev pub follow_by : List Row → Request
 follow_by rows = follow (name_in (codes "plan") rows) (name_in (codes "log") rows)
 
--- a command of a netlist, a result and a log
+-- a command with the names of a netlist, a result and a log
 abbrev pub log_app : Text → App
 log_app name = with_rule (two_names_app name (codes "bench") (codes "result")) (name_rule (codes "log"))
 
--- the list of vectors by which a log is numbered
+-- the option that names the list of vectors by which a log is numbered
 abbrev pub applied_rule : Rule
 applied_rule = text_rule (codes "applied")
 
--- what is asked without such a list, or of one
+-- what is asked for: `alone` if no list of applied vectors is named, else `of_list` of the name of that list
 abbrev pub by_applied : List Row → Request → (Text → Request) → Request
 by_applied rows alone of_list = option_map_or of_list (text_in (codes "applied") rows) alone
 
@@ -165,14 +168,14 @@ cover_by rows = by_applied rows
     (cover (name_in (codes "bench") rows) (name_in (codes "result") rows) (name_in (codes "log") rows))
     (cover_at (name_in (codes "bench") rows) (name_in (codes "result") rows) (name_in (codes "log") rows))
 
--- a command of a netlist, a list of vectors and a result
+-- a command with the names of a netlist, a list of vectors and a result
 abbrev pub list_app : Text → App
 list_app name = with_rule (two_names_app name (codes "bench") (codes "vectors")) (name_rule (codes "result"))
 
 unfoldable pub grade_app : App
 grade_app = list_app (codes "grade")
 
--- no pair is searched
+-- without budgets, so that no pair is searched
 abbrev pub grade_by : List Row → Request
 grade_by rows = top_up (name_in (codes "bench") rows) (name_in (codes "vectors") rows) (name_in (codes "result") rows)
     (record { blocks = 0; cubes = 0; conflicts = 0 })
@@ -181,7 +184,7 @@ unfoldable pub topup_app : App
 topup_app = with_rule (with_rule (list_app (codes "topup"))
     (option_rule (codes "cubes") (codes "64") 0 CUBES_LIMIT)) (option_rule (codes "conflicts") (codes "2000") 0 CONFLICTS_LIMIT)
 
--- the list stands in the place of the stream
+-- without blocks, as the list replaces the stream
 abbrev pub topup_by : List Row → Request
 topup_by rows = top_up (name_in (codes "bench") rows) (name_in (codes "vectors") rows) (name_in (codes "result") rows)
     (record { blocks = 0; cubes = number_in (codes "cubes") 0 CUBES_LIMIT rows; conflicts = number_in (codes "conflicts") 0 CONFLICTS_LIMIT rows })
@@ -199,7 +202,7 @@ bridges_by rows = by_applied rows
 
 -- ---- the table of commands
 
--- the command of a name
+-- the command of a name, if there is one
 unfoldable pub verb_named : Text → Option Verb
 verb_named name =
     if bytes_eq name (codes "gen") then Some Gen
@@ -222,7 +225,7 @@ verb_named name =
     else if bytes_eq name (codes "bridges") then Some Bridges
     else None
 
--- the words that a command takes, and what they ask for
+-- the definition of the words that a command takes, and what they ask for
 abbrev pub table : Verb → App × (List Row → Option Request)
 table Gen = (gen_app, λ rows. Some (gen_by rows))
 table Check = (check_app, λ rows. Some (check_by rows))
@@ -249,11 +252,12 @@ app_for verb = (table verb).0
 abbrev pub request_by : Verb → List Row → Option Request
 request_by verb rows = (table verb).1 rows
 
--- what the words behind a command's name ask for, where its definition takes them
+-- what the words after a command's name ask for, if its definition takes them
 abbrev pub asked_by : Option Verb → List Text → Option Request
 asked_by None words = None
 asked_by (Some verb) words = if is_taken (app_for verb) words then request_by verb (matches_of (app_for verb) words) else None
 
+-- what the words ask for, if the first is a command and its definition takes the others
 unfoldable pub request_of : List Text → Option Request
 request_of [] = None
 request_of (command ∷ words) = asked_by (verb_named command) words

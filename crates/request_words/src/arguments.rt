@@ -1,4 +1,4 @@
-//! Words by the definition of a simple command of `clap`, and what its matches hold.
+//! The definition of a command for `clap`, with its names, numbers and options, and what its matches hold.
 
 ghost use Rattle.std.specs.Prelude.{◌≡◌, ◌≢◌, ◌≤◌, ◌<◌, [], IfOk, OnOk, Err, map, option_map, pos, string_bytes, true, false};
 ghost use Rattle.clap.specs.Words.{rule_of, app_of, found_of, rows_of, matches_of, fault_of, kind_of, is_simple_and_free, with_rule};
@@ -12,7 +12,7 @@ use clap::error::ErrorKind;
 use clap::{Arg, ArgAction, ArgMatches, Command, Error, value_parser};
 use std::alloc::{AllocError, Global};
 
-/// Why the words give no request.
+/// Why words give no request: they aren't understood, or memory is missing.
 #[derive(Drop)]
 pub enum WordsFault {
     NotUnderstood,
@@ -31,7 +31,7 @@ impl From<AllocError> for WordsFault {
 
 // ---- definitions of commands
 
-/// A command without an argument yet, whose words begin behind its name.
+/// Returns a command without arguments, whose words begin after its name.
 pub(crate) fn bare_command<'a>(alloc: Global, name: &'a str) -> Command<'a>
     ensures app { app_of result ≡ bare_app name.entry.now }
 {
@@ -41,7 +41,7 @@ pub(crate) fn bare_command<'a>(alloc: Global, name: &'a str) -> Command<'a>
         .disable_version_flag(true)
 }
 
-/// A command of two names that have to stand.
+/// Returns a command with two required names.
 pub(crate) fn two_names<'a>(
     alloc: Global,
     name: &'a str,
@@ -53,7 +53,7 @@ pub(crate) fn two_names<'a>(
     with_names(alloc, bare_command(alloc, name), first, second)
 }
 
-/// A command with two names more that have to stand.
+/// Adds two required names to a command.
 pub(crate) fn with_names<'a>(
     alloc: Global,
     command: Command<'a>,
@@ -67,7 +67,7 @@ pub(crate) fn with_names<'a>(
         .arg(name_arg(alloc, second))
 }
 
-/// A name that has to stand.
+/// Returns a required name.
 pub(crate) fn name_arg<'a>(alloc: Global, id: &'a str) -> Arg<'a>
     ensures rule { rule_of result ≡ name_rule id.entry.now }
     ensures local { result.global ≡ false }
@@ -75,7 +75,7 @@ pub(crate) fn name_arg<'a>(alloc: Global, id: &'a str) -> Arg<'a>
     Arg::new(alloc, id).required(true).action(ArgAction::Set)
 }
 
-/// A number that has to stand, from 1 to a most.
+/// Returns a required number from 1 to `most`.
 pub(crate) fn number_arg<'a>(alloc: Global, id: &'a str, most: u32) -> Arg<'a>
     ensures rule { rule_of result ≡ number_rule id.entry.now most }
     ensures local { result.global ≡ false }
@@ -83,7 +83,7 @@ pub(crate) fn number_arg<'a>(alloc: Global, id: &'a str, most: u32) -> Arg<'a>
     name_arg(alloc, id).value_parser(number_parser(1, most))
 }
 
-// An option with a number from a least to a most, and its default.
+// Returns an option with a number from `least` to `most` and a default.
 fn option_arg<'a>(alloc: Global, id: &'a str, default: &'a str, least: u32, most: u32) -> Arg<'a>
     ensures rule { rule_of result ≡ option_rule id.entry.now default.entry.now least most }
     ensures local { result.global ≡ false }
@@ -94,7 +94,7 @@ fn option_arg<'a>(alloc: Global, id: &'a str, default: &'a str, least: u32, most
         .value_parser(number_parser(least, most))
 }
 
-/// A command with an option more: a number from a least to a most, and its default.
+/// Adds an option with a number from `least` to `most` and a default to a command.
 pub(crate) fn with_option<'a>(
     alloc: Global,
     command: Command<'a>,
@@ -108,7 +108,7 @@ pub(crate) fn with_option<'a>(
     command.arg(option_arg(alloc, id, default, least, most))
 }
 
-// An option with a text, and no default.
+// Returns an option with a text and no default.
 fn text_arg<'a>(alloc: Global, id: &'a str) -> Arg<'a>
     ensures rule { rule_of result ≡ text_rule id.entry.now }
     ensures local { result.global ≡ false }
@@ -116,7 +116,7 @@ fn text_arg<'a>(alloc: Global, id: &'a str) -> Arg<'a>
     Arg::new(alloc, id).long(id).action(ArgAction::Set)
 }
 
-/// A command with an option more: a text, and no default.
+/// Adds an option with a text and no default to a command.
 pub(crate) fn with_text_option<'a>(
     alloc: Global,
     command: Command<'a>,
@@ -127,7 +127,7 @@ pub(crate) fn with_text_option<'a>(
     command.arg(text_arg(alloc, id))
 }
 
-// What takes the numbers from a least to a most.
+// Returns the parser of the numbers from `least` to `most`.
 fn number_parser<'a>(least: u32, most: u32) -> ValueParser<'a>
     ensures { result ≡ value_parsers.Signed (pos least) (pos most) }
 {
@@ -136,7 +136,7 @@ fn number_parser<'a>(least: u32, most: u32) -> ValueParser<'a>
 
 // ---- matches
 
-/// The matches of the words, where the command's definition takes them.
+/// Returns the matches of the words if the command's definition takes them, and `NotUnderstood` only if it doesn't.
 pub(crate) fn parse<'a>(
     command: Command<'a>,
     words: &'a [String],
@@ -152,7 +152,7 @@ pub(crate) fn parse<'a>(
     }
 }
 
-// Why the words give no request, by the error of `clap`.
+// Returns why the words give no request, by the error of `clap`.
 fn words_fault(error: &Error) -> WordsFault
     ensures { result ≡ WordsFault.NotUnderstood → kind_of error.now ≢ OutOfMemory }
 {
@@ -163,7 +163,7 @@ fn words_fault(error: &Error) -> WordsFault
     }
 }
 
-/// The name under an id.
+/// Returns the name under an id, or an empty text if there is none.
 pub(crate) fn name_in<'a>(matches: &ArgMatches<'a>, id: &str) -> &'a str
     ensures { result.now ≡ name_in id.now (rows_of (found_of matches.now)) }
 {
@@ -173,14 +173,14 @@ pub(crate) fn name_in<'a>(matches: &ArgMatches<'a>, id: &str) -> &'a str
     }
 }
 
-/// The text under an id, if there is one.
+/// Returns the text under an id, if there is one.
 pub(crate) fn text_in<'a>(matches: &ArgMatches<'a>, id: &str) -> Option<&'a str>
     ensures { option_map (λ text. text.now) result ≡ text_in id.now (rows_of (found_of matches.now)) }
 {
     matches.get_str(id)
 }
 
-/// The number under an id, from a least to a most.
+/// Returns the number under an id, or `least` if there is none from `least` to `most`.
 pub(crate) fn number_in(matches: &ArgMatches<'_>, id: &str, least: u32, most: u32) -> u32
     requires { least ≤ most }
     ensures number { result ≡ number_in id.now least most (rows_of (found_of matches.now)) }
@@ -193,7 +193,7 @@ pub(crate) fn number_in(matches: &ArgMatches<'_>, id: &str, least: u32, most: u3
     }
 }
 
-/// The kind of dictionary that a word names.
+/// Returns the kind of dictionary that a word names, if it names one.
 pub(crate) fn kind_named(word: &str) -> Option<EntryKind>
     ensures { result ≡ kind_named word.now }
 {

@@ -1,5 +1,5 @@
-//! The words of the commands that take more or less than two names: `gen`, `dict`, `faults`, `synth`, `compact`, `rank`,
-//! `adapt`, `expect`, `suspects`, `cover`, `grade`, `topup` and `bridges`.
+//! The words of the commands that take other words than just two names: `gen`, `dict`, `faults`, `synth`, `compact`,
+//! `rank`, `adapt`, `expect`, `suspects`, `cover`, `grade`, `topup` and `bridges`.
 
 ghost use Rattle.std.specs.Prelude.{◌≡◌, ◌≤◌, IfOk, IfSome, codes, option_map};
 ghost use Rattle.clap.specs.Words.{app_of, found_of, rows_of, with_rule};
@@ -17,23 +17,23 @@ use clap::{ArgMatches, Command};
 use result_records::{BLOCKS_LIMIT, Budgets, CONFLICTS_LIMIT, CUBES_LIMIT};
 use std::alloc::{AllocError, Global};
 
-// The largest number of a netlist.
+// The largest number of a netlist of `synth`.
 const SYNTH_LIMIT: u32 = 2000;
 
-// The most mismatches above the least, or failing patterns that a bridge leaves unexplained.
+// The limit of mismatches above the least, and of failing patterns that a bridge leaves unexplained.
 const WITHIN_LIMIT: u32 = 1_000_000;
 
-// The most suspects or bridges that are listed.
+// The limit of suspects or bridges that are listed.
 const MOST_LIMIT: u32 = 1_000_000;
 
-/// Two names and three options.
+/// Returns the definition of `gen`: two names and three options.
 pub(crate) fn gen_command<'a>(alloc: Global) -> Result<Command<'a>, AllocError>
     ensures { IfOk result (λ c. app_of c ≡ gen_app) }
 {
     with_options(alloc, two_names(alloc, "gen", "bench", "result")?)
 }
 
-// A command with the options of `gen`.
+// Adds the options of `gen` to a command.
 fn with_options<'a>(alloc: Global, command: Command<'a>) -> Result<Command<'a>, AllocError>
     ensures { IfOk result (λ c. app_of c ≡ with_rule (with_rule (with_rule (app_of command.entry) (option_rule (codes "blocks") (codes "4") 0 BLOCKS_LIMIT)) (option_rule (codes "cubes") (codes "64") 0 CUBES_LIMIT)) (option_rule (codes "conflicts") (codes "2000") 0 CONFLICTS_LIMIT)) }
 {
@@ -41,7 +41,7 @@ fn with_options<'a>(alloc: Global, command: Command<'a>) -> Result<Command<'a>, 
     with_search_options(alloc, command)
 }
 
-// A command with the options that bound the search for patterns.
+// Adds the options that bound the search for patterns to a command.
 fn with_search_options<'a>(alloc: Global, command: Command<'a>) -> Result<Command<'a>, AllocError>
     ensures { IfOk result (λ c. app_of c ≡ with_rule (with_rule (app_of command.entry) (option_rule (codes "cubes") (codes "64") 0 CUBES_LIMIT)) (option_rule (codes "conflicts") (codes "2000") 0 CONFLICTS_LIMIT)) }
 {
@@ -49,7 +49,7 @@ fn with_search_options<'a>(alloc: Global, command: Command<'a>) -> Result<Comman
     with_option(alloc, command, "conflicts", "2000", 0, CONFLICTS_LIMIT)
 }
 
-/// The request of its matches.
+/// Returns the request of its matches.
 pub(crate) fn gen_in<'a>(matches: &ArgMatches<'a>) -> Request<'a>
     ensures asked { asked result ≡ gen_by (rows_of (found_of matches.now)) }
     ensures limits { HasLimits result }
@@ -62,7 +62,7 @@ pub(crate) fn gen_in<'a>(matches: &ArgMatches<'a>) -> Request<'a>
     )
 }
 
-// The budgets of so many blocks, and with the options that bound the search.
+// Returns the budgets with `blocks` blocks and with the options that bound the search.
 fn budgets_in(matches: &ArgMatches<'_>, blocks: u32) -> Budgets
     requires { blocks ≤ BLOCKS_LIMIT }
     ensures budgets { result ≡ record { blocks = blocks; cubes = number_in (codes "cubes") 0 CUBES_LIMIT (rows_of (found_of matches.now)); conflicts = number_in (codes "conflicts") 0 CONFLICTS_LIMIT (rows_of (found_of matches.now)) } }
@@ -75,7 +75,7 @@ fn budgets_in(matches: &ArgMatches<'_>, blocks: u32) -> Budgets
     }
 }
 
-/// Four names, of which the first is a kind.
+/// Returns the definition of `dict`: four names, the first of them a kind.
 pub(crate) fn dict_command<'a>(alloc: Global) -> Result<Command<'a>, AllocError>
     ensures { IfOk result (λ c. app_of c ≡ dict_app) }
 {
@@ -87,7 +87,7 @@ pub(crate) fn dict_command<'a>(alloc: Global) -> Result<Command<'a>, AllocError>
     )
 }
 
-/// The request of its matches, if they name a kind.
+/// Returns the request of its matches, if they name a kind.
 pub(crate) fn dict_in<'a>(matches: &ArgMatches<'a>) -> Option<Request<'a>>
     ensures asked { option_map asked result ≡ dict_by (rows_of (found_of matches.now)) }
     ensures limits { IfSome result HasLimits }
@@ -101,14 +101,14 @@ pub(crate) fn dict_in<'a>(matches: &ArgMatches<'a>) -> Option<Request<'a>>
     ))
 }
 
-/// A name.
+/// Returns the definition of `faults`: one name.
 pub(crate) fn faults_command<'a>(alloc: Global) -> Result<Command<'a>, AllocError>
     ensures { IfOk result (λ c. app_of c ≡ faults_app) }
 {
     bare_command(alloc, "faults").arg(name_arg(alloc, "bench"))
 }
 
-/// The request of its matches.
+/// Returns the request of its matches.
 pub(crate) fn faults_in<'a>(matches: &ArgMatches<'a>) -> Request<'a>
     ensures asked { asked result ≡ faults_by (rows_of (found_of matches.now)) }
     ensures limits { HasLimits result }
@@ -116,7 +116,7 @@ pub(crate) fn faults_in<'a>(matches: &ArgMatches<'a>) -> Request<'a>
     Request::ListFaults(name_in(matches, "bench"))
 }
 
-/// A number and two names.
+/// Returns the definition of `synth`: a number and two names.
 pub(crate) fn synth_command<'a>(alloc: Global) -> Result<Command<'a>, AllocError>
     ensures { IfOk result (λ c. app_of c ≡ synth_app) }
 {
@@ -124,7 +124,7 @@ pub(crate) fn synth_command<'a>(alloc: Global) -> Result<Command<'a>, AllocError
     with_names(alloc, command, "bench", "result")
 }
 
-/// The request of its matches.
+/// Returns the request of its matches.
 pub(crate) fn synth_in<'a>(matches: &ArgMatches<'a>) -> Request<'a>
     ensures asked { asked result ≡ synth_by (rows_of (found_of matches.now)) }
     ensures limits { HasLimits result }
@@ -136,14 +136,14 @@ pub(crate) fn synth_in<'a>(matches: &ArgMatches<'a>) -> Request<'a>
     )
 }
 
-/// Three names.
+/// Returns the definition of `compact`: three names.
 pub(crate) fn compact_command<'a>(alloc: Global) -> Result<Command<'a>, AllocError>
     ensures { IfOk result (λ c. app_of c ≡ compact_app) }
 {
     two_names(alloc, "compact", "bench", "result")?.arg(name_arg(alloc, "new"))
 }
 
-/// The request of its matches.
+/// Returns the request of its matches.
 pub(crate) fn compact_in<'a>(matches: &ArgMatches<'a>) -> Request<'a>
     ensures asked { asked result ≡ compact_by (rows_of (found_of matches.now)) }
     ensures limits { HasLimits result }
@@ -155,7 +155,7 @@ pub(crate) fn compact_in<'a>(matches: &ArgMatches<'a>) -> Request<'a>
     )
 }
 
-/// Two names and an option.
+/// Returns the definition of `rank`: two names and an option.
 pub(crate) fn rank_command<'a>(alloc: Global) -> Result<Command<'a>, AllocError>
     ensures { IfOk result (λ c. app_of c ≡ rank_app) }
 {
@@ -163,7 +163,7 @@ pub(crate) fn rank_command<'a>(alloc: Global) -> Result<Command<'a>, AllocError>
     with_option(alloc, command, "within", "0", 0, WITHIN_LIMIT)
 }
 
-/// The request of its matches.
+/// Returns the request of its matches.
 pub(crate) fn rank_in<'a>(matches: &ArgMatches<'a>) -> Request<'a>
     ensures asked { asked result ≡ rank_by (rows_of (found_of matches.now)) }
     ensures limits { HasLimits result }
@@ -175,14 +175,14 @@ pub(crate) fn rank_in<'a>(matches: &ArgMatches<'a>) -> Request<'a>
     )
 }
 
-/// Three names.
+/// Returns the definition of `adapt`: three names.
 pub(crate) fn adapt_command<'a>(alloc: Global) -> Result<Command<'a>, AllocError>
     ensures { IfOk result (λ c. app_of c ≡ adapt_app) }
 {
     two_names(alloc, "adapt", "bench", "result")?.arg(name_arg(alloc, "plan"))
 }
 
-/// The request of its matches.
+/// Returns the request of its matches.
 pub(crate) fn adapt_in<'a>(matches: &ArgMatches<'a>) -> Request<'a>
     ensures asked { asked result ≡ adapt_by (rows_of (found_of matches.now)) }
     ensures limits { HasLimits result }
@@ -194,28 +194,28 @@ pub(crate) fn adapt_in<'a>(matches: &ArgMatches<'a>) -> Request<'a>
     )
 }
 
-// Three names, of which the last is a log.
+// Returns the definition of a command: three names, the last of them a log.
 fn log_command<'a>(alloc: Global, name: &'a str) -> Result<Command<'a>, AllocError>
     ensures { IfOk result (λ c. app_of c ≡ log_app name.entry.now) }
 {
     two_names(alloc, name, "bench", "result")?.arg(name_arg(alloc, "log"))
 }
 
-// A command with the option that names the list of vectors by which the log is numbered.
+// Adds the option that names the list of vectors by which the log is numbered.
 fn with_applied<'a>(alloc: Global, command: Command<'a>) -> Result<Command<'a>, AllocError>
     ensures { IfOk result (λ c. app_of c ≡ with_rule (app_of command.entry) applied_rule) }
 {
     with_text_option(alloc, command, "applied")
 }
 
-/// Three names and an option.
+/// Returns the definition of `expect`: three names and an option.
 pub(crate) fn expect_command<'a>(alloc: Global) -> Result<Command<'a>, AllocError>
     ensures { IfOk result (λ c. app_of c ≡ expect_app) }
 {
     with_applied(alloc, log_command(alloc, "expect")?)
 }
 
-/// The request of its matches.
+/// Returns the request of its matches.
 pub(crate) fn expect_in<'a>(matches: &ArgMatches<'a>) -> Request<'a>
     ensures asked { asked result ≡ expect_by (rows_of (found_of matches.now)) }
     ensures limits { HasLimits result }
@@ -229,7 +229,7 @@ pub(crate) fn expect_in<'a>(matches: &ArgMatches<'a>) -> Request<'a>
     }
 }
 
-/// Three names and two options.
+/// Returns the definition of `suspects`: three names and two options.
 pub(crate) fn suspects_command<'a>(alloc: Global) -> Result<Command<'a>, AllocError>
     ensures { IfOk result (λ c. app_of c ≡ suspects_app) }
 {
@@ -238,7 +238,7 @@ pub(crate) fn suspects_command<'a>(alloc: Global) -> Result<Command<'a>, AllocEr
     with_applied(alloc, command)
 }
 
-/// The request of its matches.
+/// Returns the request of its matches.
 pub(crate) fn suspects_in<'a>(matches: &ArgMatches<'a>) -> Request<'a>
     ensures asked { asked result ≡ suspects_by (rows_of (found_of matches.now)) }
     ensures limits { HasLimits result }
@@ -253,14 +253,14 @@ pub(crate) fn suspects_in<'a>(matches: &ArgMatches<'a>) -> Request<'a>
     }
 }
 
-/// Three names and an option.
+/// Returns the definition of `cover`: three names and an option.
 pub(crate) fn cover_command<'a>(alloc: Global) -> Result<Command<'a>, AllocError>
     ensures { IfOk result (λ c. app_of c ≡ cover_app) }
 {
     with_applied(alloc, log_command(alloc, "cover")?)
 }
 
-/// The request of its matches.
+/// Returns the request of its matches.
 pub(crate) fn cover_in<'a>(matches: &ArgMatches<'a>) -> Request<'a>
     ensures asked { asked result ≡ cover_by (rows_of (found_of matches.now)) }
     ensures limits { HasLimits result }
@@ -274,14 +274,14 @@ pub(crate) fn cover_in<'a>(matches: &ArgMatches<'a>) -> Request<'a>
     }
 }
 
-/// Three names, of which the second is a list of vectors.
+/// Returns the definition of a command: three names, the second of them a list of vectors.
 pub(crate) fn list_command<'a>(alloc: Global, name: &'a str) -> Result<Command<'a>, AllocError>
     ensures { IfOk result (λ c. app_of c ≡ list_app name.entry.now) }
 {
     two_names(alloc, name, "bench", "vectors")?.arg(name_arg(alloc, "result"))
 }
 
-/// The request of the matches of `grade`.
+/// Returns the request of the matches of `grade`.
 pub(crate) fn grade_in<'a>(matches: &ArgMatches<'a>) -> Request<'a>
     ensures asked { asked result ≡ grade_by (rows_of (found_of matches.now)) }
     ensures limits { HasLimits result }
@@ -299,14 +299,14 @@ pub(crate) fn grade_in<'a>(matches: &ArgMatches<'a>) -> Request<'a>
     )
 }
 
-/// Three names and two options.
+/// Returns the definition of `topup`: three names and two options.
 pub(crate) fn topup_command<'a>(alloc: Global) -> Result<Command<'a>, AllocError>
     ensures { IfOk result (λ c. app_of c ≡ topup_app) }
 {
     with_search_options(alloc, list_command(alloc, "topup")?)
 }
 
-/// The request of its matches.
+/// Returns the request of its matches.
 pub(crate) fn topup_in<'a>(matches: &ArgMatches<'a>) -> Request<'a>
     ensures asked { asked result ≡ topup_by (rows_of (found_of matches.now)) }
     ensures limits { HasLimits result }
@@ -319,7 +319,7 @@ pub(crate) fn topup_in<'a>(matches: &ArgMatches<'a>) -> Request<'a>
     )
 }
 
-/// Three names and three options.
+/// Returns the definition of `bridges`: three names and three options.
 pub(crate) fn bridges_command<'a>(alloc: Global) -> Result<Command<'a>, AllocError>
     ensures { IfOk result (λ c. app_of c ≡ bridges_app) }
 {
@@ -329,7 +329,7 @@ pub(crate) fn bridges_command<'a>(alloc: Global) -> Result<Command<'a>, AllocErr
     with_applied(alloc, command)
 }
 
-/// The request of its matches.
+/// Returns the request of its matches.
 pub(crate) fn bridges_in<'a>(matches: &ArgMatches<'a>) -> Request<'a>
     ensures asked { asked result ≡ bridges_by (rows_of (found_of matches.now)) }
     ensures limits { HasLimits result }

@@ -1,5 +1,5 @@
-//! What the words of the command line ask for. The first is a command; `clap` reads the others by a simple definition of
-//! that command.
+//! What the words of the command line ask for. The first is a command; `clap` reads the others by a simple definition
+//! of that command.
 #![tactic(auto)]
 
 mod arguments;

@@ -1,4 +1,5 @@
-//! From words to the request that they make.
+//! `Request` and `read_words`: which command reads the words, and what they ask for. The commands with just two names
+//! are here: `check`, `convert`, `diagnose`, `sim` and `follow`.
 
 ghost use Rattle.std.specs.Prelude.{◌≡◌, IfOk, IfSome, Err, Some, None, map, option_map, string_bytes};
 ghost use Rattle.clap.specs.Words.{app_of, found_of, rows_of};
@@ -39,8 +40,9 @@ pub(crate) enum Verb {
     Bridges,
 }
 
-/// What the entries of a dictionary tell of a number: at which patterns it answers otherwise than the fault-free circuit, all
-/// that it answers, or at which patterns it answers otherwise than chosen answers.
+/// What the entry of a number in a dictionary says: at which patterns it answers otherwise than the fault-free circuit
+/// (`PassFail`), all that it answers (`Full`), or at which patterns it answers otherwise than chosen baselines
+/// (`SameDiff`).
 #[derive(Clone, Copy)]
 pub enum EntryKind {
     PassFail,
@@ -57,7 +59,7 @@ pub enum Request<'a> {
     Check(&'a str, &'a str),
     /// To make a dictionary for a netlist and a result.
     MakeDict(EntryKind, &'a str, &'a str, &'a str),
-    /// To write a dictionary anew.
+    /// To write a dictionary again under a new name.
     Convert(&'a str, &'a str),
     /// To list the numbers that a dictionary and a log point to.
     Diagnose(&'a str, &'a str),
@@ -69,34 +71,36 @@ pub enum Request<'a> {
     Synth(u32, &'a str, &'a str),
     /// To leave out the patterns of a result that its classes don't need, for a netlist.
     Compact(&'a str, &'a str, &'a str),
-    /// To rank the numbers by a dictionary and a partial log, up to so many mismatches above the least.
+    /// To rank the numbers by a dictionary and a partial log, up to the given number of mismatches above the least.
     Rank(&'a str, &'a str, u32),
     /// To plan which pattern to ask next, for a netlist and a result.
     Adapt(&'a str, &'a str, &'a str),
-    /// To tell where a log of answers leads in a plan.
+    /// To say where a log of answers leads in a plan.
     Follow(&'a str, &'a str),
     /// To write the log that a chip without a fault gives, for a netlist and a result.
     Expect(&'a str, &'a str, &'a str),
-    /// To list the classes that a partial log suspects, so many at the most, for a netlist and a result.
+    /// To list the classes that a partial log suspects, at most the given number of them, for a netlist and a result.
     Suspects(&'a str, &'a str, &'a str, u32),
     /// To list classes that together explain what fails in a partial log, for a netlist and a result.
     Cover(&'a str, &'a str, &'a str),
-    /// To keep of a list of vectors those that split a class, and generate a result behind them, for a netlist.
+    /// To keep each vector of a list that splits a class, and generate a result after them, for a netlist.
     TopUp(&'a str, &'a str, &'a str, Budgets),
-    /// To list bridges, so many at the most, that explain all failing patterns of a partial log but so many, for a netlist and a
-    /// result.
+    /// To list bridges, at most the first number of them, that explain all failing patterns of a partial log except at
+    /// most the second number, for a netlist and a result.
     Bridges(&'a str, &'a str, &'a str, u32, u32),
     /// As `Expect`, for a list of vectors that were applied.
     ExpectAt(&'a str, &'a str, &'a str, &'a str),
-    /// As `Suspects`, where the log is numbered by a list of vectors that were applied.
+    /// As `Suspects`, with a log that is numbered by a list of vectors that were applied.
     SuspectsAt(&'a str, &'a str, &'a str, u32, &'a str),
-    /// As `Cover`, where the log is numbered by a list of vectors that were applied.
+    /// As `Cover`, with a log that is numbered by a list of vectors that were applied.
     CoverAt(&'a str, &'a str, &'a str, &'a str),
-    /// As `Bridges`, where the log is numbered by a list of vectors that were applied.
+    /// As `Bridges`, with a log that is numbered by a list of vectors that were applied.
     BridgesAt(&'a str, &'a str, &'a str, u32, u32, &'a str),
 }
 
-/// The request of the words: the first is a command, which reads the others.
+/// Returns the request of the words: the first is a command, which reads the others. Returns `NotUnderstood` exactly if
+/// there is no word, the first is no command, that command's definition doesn't take the others, or the kind of a
+/// dictionary is none of the three.
 #[tactic(auto, unfolding(crate::specs::Request::request_of))]
 pub fn read_words(alloc: Global, words: &[String]) -> Result<Request<'_>, WordsFault>
     ensures asked { IfOk result (λ request. request_of (map string_bytes words.now) ≡ Some (asked request)) }
@@ -112,7 +116,7 @@ pub fn read_words(alloc: Global, words: &[String]) -> Result<Request<'_>, WordsF
     }
 }
 
-// The command of a name.
+// Returns the command of a name, if there is one.
 #[tactic(auto, unfolding(crate::specs::Request::verb_named))]
 fn verb_named(name: &str) -> Option<Verb>
     ensures { result ≡ verb_named name.now }
@@ -140,7 +144,7 @@ fn verb_named(name: &str) -> Option<Verb>
     }
 }
 
-// The request of the words behind a command's name.
+// Returns the request of the words after a command's name.
 fn read_request(alloc: Global, verb: Verb, words: &[String]) -> Result<Request<'_>, WordsFault>
     ensures asked { IfOk result (λ request. asked_by (Some verb) (map string_bytes words.now) ≡ Some (asked request)) }
     ensures limits { IfOk result HasLimits }
@@ -153,7 +157,7 @@ fn read_request(alloc: Global, verb: Verb, words: &[String]) -> Result<Request<'
     }
 }
 
-// How `clap` reads the words behind a command's name.
+// Returns the definition by which `clap` reads the words after a command's name.
 #[tactic(auto, unfolding(crate::specs::Request::check_app, crate::specs::Request::convert_app, crate::specs::Request::diagnose_app, crate::specs::Request::sim_app, crate::specs::Request::follow_app, crate::specs::Request::grade_app))]
 fn definition<'a>(alloc: Global, verb: Verb) -> Result<Command<'a>, AllocError>
     ensures { IfOk result (λ c. app_of c ≡ app_for verb) }
@@ -180,7 +184,7 @@ fn definition<'a>(alloc: Global, verb: Verb) -> Result<Command<'a>, AllocError>
     }
 }
 
-// What its matches ask for.
+// Returns what its matches ask for.
 fn requested<'a>(verb: Verb, matches: &ArgMatches<'a>) -> Option<Request<'a>>
     ensures asked { option_map asked result ≡ request_by verb (rows_of (found_of matches.now)) }
     ensures limits { IfSome result HasLimits }

@@ -31,14 +31,14 @@ module _ {c : Circuit} {AreMade : Text → Text → Type 0} {before : List (Text
   part_among names among made t (inl p) = cut_among made p.0.made names p.2.files (subst (λ (o : Outcome). MadeAmong o.made names) (sym p.1.outcome) (among p.1.file))
   part_among names among made t (inr cut) = cut_among made (before ++ (result, cut.part) ∷ []) names cut.files (among cut.part)
 
-  -- a part of a result is one after another file too
+  -- a part of a result is also one after one more file
   pub result_after : (name bytes : Text) (made : List (Text × Text)) (t : Text) → IsResultPart c AreMade before result made t → IsResultPart c AreMade ((name, bytes) ∷ before) result ((name, bytes) ∷ made) t
   result_after name bytes made t (inl p) =
       let whole = before ++ (result, p.1.file) ∷ [] in
       inl (saved ((name, bytes) ∷ whole) p.1.text, record { file = p.1.file; text = p.1.text; made = p.1.made; outcome = refl }, part_after name bytes p.1.text whole made t (subst (λ (o : Outcome). IsPartOf o made t) p.1.outcome p.2))
   result_after name bytes made t (inr cut) = inr (record { part = cut.part; lines = cut.lines; files = cut_after name bytes made (before ++ (result, cut.part) ∷ []) cut.files; silent = cut.silent })
 
--- no file was made
+-- no file has been made
 pub saves_none : {T : Type 0} {c : Circuit} {AreMade : Text → Text → Type 0} {before : List (Text × Text)} {result : Text} {fault : ShelfFault} {ending : Ending} {a b : State} → IsWriteCall {T = T} (Err fault) a b → Told a b Same → (IsTrue a.sure → fault ≡ Failed → ⊥) → ending ≡ Err (write_fault fault) → SavesResult c AreMade before result ending a b
 saves_none {T} {c} {AreMade} {before} {result} {fault} {ending} {a} {b} call same never is = record {
   file = [];
@@ -47,7 +47,7 @@ saves_none {T} {c} {AreMade} {before} {result} {fault} {ending} {a} {b} call sam
   made = λ z. absurd (not_done (write_broken fault is) z);
 }
 
--- the first file was made, and a part of it was written
+-- the first file has been made, and a part of it written
 pub saves_cut : {T U : Type 0} {x : T} {c : Circuit} {AreMade : Text → Text → Type 0} {before : List (Text × Text)} {name result : Text} {fault : ShelfFault} {ending : Ending} {a b d : State} → (IsTrue b.sure → IsTrue b.tells) → IsWriteCall (Ok x) a b → Told a b (Creates name) → IsWriteCall {T = U} (Err fault) b d
     → Told b d (λ u v. (part : List ℕ) × IsResultPart c AreMade before result ((name, part) ∷ []) [] × Writes part u v) → (IsTrue b.sure → fault ≡ Failed → b.world.written ≡ None) → ending ≡ Err (write_fault fault) → SavesResult c AreMade before result ending a d
 saves_cut {T} {U} {x} {c} {AreMade} {before} {name} {result} {fault} {ending} {a} {b} {d} law made created wrote cut absent is = record {
@@ -57,7 +57,7 @@ saves_cut {T} {U} {x} {c} {AreMade} {before} {name} {result} {fault} {ending} {a
   made = λ z. absurd (not_done (write_broken fault is) z);
 }
 
--- a whole file was made, and the text that is printed of it, or a beginning of that
+-- a whole file has been made, and its text or a beginning of that printed
 pub saves_whole : {T U : Type 0} {x : T} {y : U} {c : Circuit} {AreMade : Text → Text → Type 0} {result file : Text} (text : Text) {ending : Ending} {a b d e : State} → IsWriteCall (Ok x) a b → Told a b (Creates result) → IsWriteCall (Ok y) b d → AreMade file text → Told b d (Writes file)
     → Ends (said done text) (IsPartOf (said done text)) ending d e → SavesResult c AreMade [] result ending a e
 saves_whole {T} {U} {x} {y} {c} {AreMade} {result} {file} text {ending} {a} {b} {d} {e} made created wrote is written says = record {
@@ -70,14 +70,14 @@ saves_whole {T} {U} {x} {y} {c} {AreMade} {result} {file} text {ending} {a} {b} 
 fits_result : {c : Circuit} {AreMade : Text → Text → Type 0} {endings : List Ending} {outputs : List Text} (before : List (Text × Text)) (result file text : Text) → MayBreak endings → IsAmong done endings → ((file : Text) → MadeAmong (before ++ (result, file) ∷ []) outputs) → Fits endings outputs (saved (before ++ (result, file) ∷ []) text) (IsResultPart c AreMade before result)
 fits_result {c} {AreMade} {endings} {outputs} before result file text breaks zero among = record { decided = tt; among = zero; breaks = breaks; names = λ made t part. part_among outputs among made t part }
 
--- a result of the circuit was saved
+-- a result of the circuit has been saved
 pub saved_follows : {c : Circuit} {AreMade : Text → Text → Type 0} {endings : List Ending} {outputs : List Text} {ending : Ending} {a b : State} (result : Text) → MayBreak endings → IsAmong done endings → IsAmong result outputs → SavesResult c AreMade [] result ending a b → Follows (makes_result result AreMade c) endings outputs ending a b
 saved_follows {c} {AreMade} {endings} {outputs} {ending} {a} {b} result breaks zero among saves =
     ran (fits_result [] result saves.file saves.text breaks zero (λ file. (among, tt)))
     (λ z. record { file = saves.file; text = saves.text; made = saves.made z; outcome = refl })
     (λ made t part. part) saves.ends
 
--- a netlist was saved, and a result of its circuit
+-- a netlist has been saved, and a result of its circuit
 pub both_follows : {budgets : Budgets} {design : Design} {endings : List Ending} {outputs : List Text} {ending : Ending} {a b : State} (bench netlist result : Text) → MayBreak endings → IsAmong done endings → ((file : Text) → MadeAmong ((bench, netlist) ∷ (result, file) ∷ []) outputs) → IsDesign netlist design
     → SavesResult design.circuit (IsGenerated design.circuit budgets) ((bench, netlist) ∷ []) result ending a b → Follows (makes_both bench netlist result budgets) endings outputs ending a b
 both_follows {budgets} {design} {endings} {outputs} {ending} {a} {b} bench netlist result breaks zero among accepted saves =

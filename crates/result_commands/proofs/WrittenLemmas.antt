@@ -1,4 +1,4 @@
--- The plans of `gen` and of `check` are what is written out of them.
+-- The plans of `gen` and of `check` call for and may leave exactly what is written out.
 use Rattle.std.proofs.Common.{◌≡◌, List, [], ◌∷◌, refl, sym, ap, subst, ◌∙◌, inl, inr}
 use Rattle.diag_shelf.specs.World.{Files}
 use Rattle.result_records.specs.declared.record.Budgets.{Budgets}

@@ -1,4 +1,4 @@
--- What is printed of a result that is valid.
+-- What is printed about a valid result.
 use Rattle.std.specs.Prelude.{◌≡◌, List}
 use Rattle.net_model.specs.Circuit.{Circuit}
 use Rattle.result_records.specs.declared.record.Record.{Record}
@@ -8,7 +8,7 @@ use Rattle.result_file.specs.Valid.{IsValid}
 use Rattle.text_fields.specs.Fields.{Text}
 use Rattle.result_commands.specs.Texts.{valid_text}
 
--- The text says what a valid file amounts to.
+-- The file is a valid result for the circuit, and the text says what it amounts to.
 pub record IsValidText (c : Circuit) (file text : Text) : Type 0 where
   pub records : List Record
   pub spelled : file ≡ text_of records

@@ -22,21 +22,22 @@ use Rattle.run_steps.specs.Ran.{Ends}
 
 -- ---- what is done with them
 
--- a result, after these files, and the text that is printed of it
+-- The outcome is to save the files `before` and then a file that may be made, as the result, and to print its text.
 pub record MakesResult (before : List (Text × Text)) (result : Text) (AreMade : Text → Text → Type 0) (o : Outcome) : Type 0 where
   pub file : Text
   pub text : Text
   pub made : AreMade file text
   pub outcome : o ≡ saved (before ++ (result, file) ∷ []) text
 
--- a result that was cut short, after these files: a beginning of lines that are right for the circuit, and nothing printed
+-- What is there of the files `before` and then a result that was cut short: a beginning of lines that are right for the
+-- circuit. Nothing is printed.
 pub record IsCutResult (before : List (Text × Text)) (result : Text) (c : Circuit) (made : List (Text × Text)) (text : Text) : Type 0 where
   pub part : Text
   pub lines : IsCutFile c part
   pub files : IsCut made (before ++ (result, part) ∷ [])
   pub silent : text ≡ []
 
--- a part of it, or such a cut
+-- What is left is a part of the files and the text that `MakesResult` saves, or is a result that was cut short.
 abbrev pub IsResultPart : Circuit → (Text → Text → Type 0) → List (Text × Text) → Text → List (Text × Text) → Text → Type 0
 IsResultPart c AreMade before result = IsLeftBy (MakesResult before result AreMade) (IsCutResult before result c)
 
@@ -49,18 +50,20 @@ pub record IsGenerated (c : Circuit) (budgets : Budgets) (file text : Text) : Ty
   pub made : IsMade c budgets summary file
   pub text_is : text ≡ summary_text summary
 
--- The file may be made from the list with these budgets, and the text says what it amounts to and how many vectors were kept.
+-- The file may be made from the list with these budgets, and the text says what it amounts to and how many vectors were
+-- kept.
 pub record IsToppedUpFile (c : Circuit) (vectors : List (List Bool)) (budgets : Budgets) (file text : Text) : Type 0 where
   pub topped : ToppedUp
   pub is : IsToppedUp c vectors budgets topped file
   pub text_is : text ≡ kept_text topped.summary topped.kept (length vectors)
 
--- a netlist under this name, and then a result of its circuit
+-- the plan to make a netlist under this name, and then a result of its circuit
 abbrev pub makes_both : Text → Text → Text → Budgets → Plan
 makes_both bench netlist result budgets = finish (λ o. (design : Design) × IsDesign netlist design × MakesResult ((bench, netlist) ∷ []) result (IsGenerated design.circuit budgets) o)
     (λ made text. (design : Design) × IsDesign netlist design × IsCutResult ((bench, netlist) ∷ []) result design.circuit made text)
 
--- A result of the circuit was saved under this name, after these files, and a text printed of it, or a part of that.
+-- After the files `before` a result of the circuit was saved under this name and its text printed, or a part of that
+-- was done. If the ending is `done`, the result is a file that may be made.
 pub record SavesResult (c : Circuit) (AreMade : Text → Text → Type 0) (before : List (Text × Text)) (result : Text) (ending : Ending) (old new : State) : Type 0 where
   pub file : Text
   pub text : Text
@@ -69,22 +72,22 @@ pub record SavesResult (c : Circuit) (AreMade : Text → Text → Type 0) (befor
 
 -- ---- each command
 
--- `gen`: a result is made for the netlist's circuit
+-- `gen` reads the netlist, and makes a result for its circuit
 abbrev pub gen_plan : Text → Text → Budgets → Plan
 gen_plan bench result budgets = with_netlist bench (λ design. makes_result result (IsGenerated design.circuit budgets) design.circuit)
 
--- `grade` and `topup`: a result is made for the netlist's circuit from a list of vectors
+-- `grade` and `topup` read the netlist and then the list of vectors, and make a result for the circuit from the list
 abbrev pub top_up_plan : Text → Text → Text → Budgets → Plan
 top_up_plan bench vectors result budgets = with_netlist bench (λ design. with_list vectors design.circuit (λ list. makes_result result (IsToppedUpFile design.circuit list budgets) design.circuit))
 
--- `check`: what a valid result amounts to is printed
+-- `check` reads the netlist and then the result, and prints what a valid result amounts to
 abbrev pub check_plan : Text → Text → Plan
 check_plan bench result = with_netlist bench (λ design. with_result result design.circuit (λ file. says (IsValidText design.circuit file)))
 
--- `compact`: what is left of a valid result is made
+-- `compact` reads the netlist and then the result, and makes what is left of a valid result
 abbrev pub compact_plan : Text → Text → Text → Plan
 compact_plan bench result new = with_netlist bench (λ design. with_result result design.circuit (λ file. makes_file new (IsMadeThin design.circuit file)))
 
--- `synth`: the netlist of a number is made, and a result for it
+-- `synth` reads no file, and makes the netlist of a number and then a result for it
 abbrev pub synth_plan : ℕ → Text → Text → Plan
 synth_plan n bench result = makes_both bench (synth_text n) result synth_budgets

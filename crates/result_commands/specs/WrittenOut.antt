@@ -1,5 +1,5 @@
--- What the plans of `gen` and of `check` come to, written out: what a run is to do with the files that it reads, and what may stand where
--- it breaks off. Laws say that the plans call for exactly this and leave exactly this.
+-- The plans of `gen` and of `check`, written out: what a run must do with the files that it reads, and what it may
+-- leave if it breaks off. Laws say that the plans call for exactly this and may leave exactly this.
 use Rattle.std.specs.Prelude.{◌≡◌, ◌↔◌, List, [], ◌∷◌, Some}
 use Rattle.std.specs.FinMap.{get}
 use Rattle.diag_shelf.specs.World.{Files}
@@ -23,54 +23,56 @@ use Rattle.result_commands.specs.Plans.{gen_plan, check_plan}
 
 -- ---- gen
 
--- This is what a run of `gen` is to do.
+-- This outcome is what a run of `gen` must do with these files.
 pub data GenCallsFor (files : Files) (bench result : Text) (budgets : Budgets) (o : Outcome) : Type 0 where
-  -- The netlist's file is refused, and the text of the refusal printed.
+  -- The netlist's file is refused, and the text of the refusal is printed.
   gen_refused : (bytes console : Text) → get files bench ≡ Some bytes → IsRefused bytes console
       → o ≡ said (refused kind.Netlist) console → GenCallsFor files bench result budgets o
-  -- It is accepted as a design; a file that may be made for its circuit stands under the result's name, and its summary is printed.
+  -- It is accepted as a design; a file that may be made for its circuit is saved under the result's name, and its
+  -- summary is printed.
   gen_made : (bytes : Text) (design : Design) (file : Text) (summary : Summary) → get files bench ≡ Some bytes → IsDesign bytes design → IsMade design.circuit budgets summary file
       → o ≡ saved ((result, file) ∷ []) (summary_text summary) → GenCallsFor files bench result budgets o
 
--- This is what a run of `gen` may leave that breaks off.
+-- These files and this text are what a run of `gen` may leave if it breaks off.
 pub data GenMayLeave (files : Files) (bench result : Text) (budgets : Budgets) (made : List (Text × Text)) (text : Text) : Type 0 where
-  -- The netlist's file is refused: no file is made, and a beginning of the refusal's text printed.
+  -- The netlist's file is refused: no file is made, and a beginning of the refusal's text is printed.
   gen_refusal_begun : (bytes console : Text) → get files bench ≡ Some bytes → IsRefused bytes console
       → made ≡ [] → IsCutText text console → GenMayLeave files bench result budgets made text
-  -- It is accepted: a file that may be made is there, or a beginning of it, and where it is whole a beginning of its summary.
+  -- It is accepted: a file that may be made is there, or a beginning of it, and if it is whole a beginning of its
+  -- summary is printed.
   gen_file_begun : (bytes : Text) (design : Design) (file : Text) (summary : Summary) → get files bench ≡ Some bytes → IsDesign bytes design → IsMade design.circuit budgets summary file
       → IsPartOf (saved ((result, file) ∷ []) (summary_text summary)) made text → GenMayLeave files bench result budgets made text
-  -- Or a beginning of lines that are right for the circuit, and nothing is printed.
+  -- It is accepted: a beginning of lines that are right for the circuit is there, and nothing is printed.
   gen_cut : (bytes : Text) (design : Design) (part : Text) → get files bench ≡ Some bytes → IsDesign bytes design → IsCutFile design.circuit part
       → IsCut made ((result, part) ∷ []) → text ≡ [] → GenMayLeave files bench result budgets made text
 
--- The plan of `gen` is this.
+-- The plan of `gen` calls for exactly this, and may leave exactly this.
 pub record GenIsWrittenOut : Type 0 where
   pub calls_for : (files : Files) (bench result : Text) (budgets : Budgets) (o : Outcome) → CallsFor files (gen_plan bench result budgets) o ↔ GenCallsFor files bench result budgets o
   pub may_leave : (files : Files) (bench result : Text) (budgets : Budgets) (made : List (Text × Text)) (text : Text) → MayLeave files (gen_plan bench result budgets) made text ↔ GenMayLeave files bench result budgets made text
 
 -- ---- check
 
--- This is what a run of `check` is to do.
+-- This outcome is what a run of `check` must do with these files.
 pub data CheckCallsFor (files : Files) (bench result : Text) (o : Outcome) : Type 0 where
-  -- The netlist's file is refused, and the text of the refusal printed.
+  -- The netlist's file is refused, and the text of the refusal is printed.
   check_netlist_refused : (bytes console : Text) → get files bench ≡ Some bytes → IsRefused bytes console
       → o ≡ said (refused kind.Netlist) console → CheckCallsFor files bench result o
-  -- It is accepted as a design, for whose circuit the result's file is refused, and the text of that refusal printed.
+  -- It is accepted as a design, the result's file is refused for its circuit, and the text of that refusal is printed.
   check_result_refused : (bytes file console : Text) (design : Design) → get files bench ≡ Some bytes → IsDesign bytes design → get files result ≡ Some file → IsRefusedResult design.circuit file console
       → o ≡ said (refused kind.Result) console → CheckCallsFor files bench result o
   -- The result's file is valid for the circuit, and what its lines amount to is printed.
   check_accepted : (bytes file : Text) (design : Design) (records : List Record) → get files bench ≡ Some bytes → IsDesign bytes design → get files result ≡ Some file → IsValidFile design.circuit file
       → file ≡ text_of records → IsValid design.circuit records → o ≡ said done (valid_text (summary_of records)) → CheckCallsFor files bench result o
 
--- This is what a run of `check` may leave that breaks off: no file, and a beginning of the text that is to be printed.
+-- This is what a run of `check` may leave if it breaks off: no file, and a beginning of the text that must be printed.
 pub record CheckMayLeave (files : Files) (bench result : Text) (made : List (Text × Text)) (text : Text) : Type 0 where
   pub o : Outcome
   pub called : CheckCallsFor files bench result o
   pub none : made ≡ []
   pub begun : IsCutText text o.console
 
--- The plan of `check` is this.
+-- The plan of `check` calls for exactly this, and may leave exactly this.
 pub record CheckIsWrittenOut : Type 0 where
   pub calls_for : (files : Files) (bench result : Text) (o : Outcome) → CallsFor files (check_plan bench result) o ↔ CheckCallsFor files bench result o
   pub may_leave : (files : Files) (bench result : Text) (made : List (Text × Text)) (text : Text) → MayLeave files (check_plan bench result) made text ↔ CheckMayLeave files bench result made text

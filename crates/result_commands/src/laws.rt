@@ -2,12 +2,14 @@
 
 ghost use Rattle.result_commands.specs.WrittenOut.{GenIsWrittenOut, CheckIsWrittenOut};
 
-/// What the plan of `gen` calls for and may leave is what is written out of it.
+/// The plan of `gen` calls for exactly what `GenCallsFor` writes out, and may leave exactly what `GenMayLeave` writes
+/// out.
 pub fn gen_is_written_out()
     ensures { GenIsWrittenOut }
 {}
 
-/// What the plan of `check` calls for and may leave is what is written out of it.
+/// The plan of `check` calls for exactly what `CheckCallsFor` writes out, and may leave exactly what `CheckMayLeave`
+/// writes out.
 pub fn check_is_written_out()
     ensures { CheckIsWrittenOut }
 {}

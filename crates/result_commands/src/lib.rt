@@ -1,18 +1,18 @@
-//! The commands that make a result, check one or leave out patterns of one, over any shelf.
+//! The commands that make a result, check one, or leave out patterns of one, on any shelf.
 #![tactic(auto)]
 
-mod checks;
-mod compacts;
+mod check;
+mod compact;
 mod faults;
-mod generates;
+mod generate;
 mod laws;
-mod synths;
+mod synth;
 mod texts;
-mod tops_up;
+mod topup;
 
-pub use checks::check_result;
-pub use compacts::compact_result;
-pub use generates::generate_file;
+pub use check::check_result;
+pub use compact::compact_result;
+pub use generate::generate_file;
 pub use laws::{check_is_written_out, gen_is_written_out};
-pub use synths::synthesize;
-pub use tops_up::top_up_file;
+pub use synth::synthesize;
+pub use topup::top_up_file;

@@ -1,4 +1,4 @@
-//! The lines of the console.
+//! The lines of the console that say what a result amounts to.
 
 ghost use Rattle.std.specs.Prelude.{◌≡◌, IfOk, string_bytes};
 ghost use Rattle.result_commands.specs.Texts.{summary_counts, summary_text, valid_text, dropped_text, kept_text};
@@ -6,7 +6,7 @@ ghost use Rattle.result_commands.specs.Texts.{summary_counts, summary_text, vali
 use result_file::Summary;
 use std::alloc::{AllocError, Global};
 
-// The counts of a result.
+// Returns the counts of a result.
 #[tactic(auto, unfolding(crate::specs::Texts::summary_counts))]
 fn summary_counts(alloc: Global, summary: Summary) -> Result<String, AllocError>
     ensures { IfOk result (λ text. string_bytes text ≡ summary_counts summary) }
@@ -23,7 +23,7 @@ fn summary_counts(alloc: Global, summary: Summary) -> Result<String, AllocError>
     )
 }
 
-/// What a result amounts to.
+/// Returns the line that says what a result amounts to.
 #[tactic(auto, unfolding(crate::specs::Texts::summary_text))]
 pub(crate) fn summary_text(alloc: Global, summary: Summary) -> Result<String, AllocError>
     ensures { IfOk result (λ text. string_bytes text ≡ summary_text summary) }
@@ -32,7 +32,7 @@ pub(crate) fn summary_text(alloc: Global, summary: Summary) -> Result<String, Al
     format!(in alloc; "{counts}\n")
 }
 
-/// What a valid result amounts to.
+/// Returns the line that says what a valid result amounts to.
 #[tactic(auto, unfolding(crate::specs::Texts::valid_text))]
 pub(crate) fn valid_text(alloc: Global, summary: Summary) -> Result<String, AllocError>
     ensures { IfOk result (λ text. string_bytes text ≡ valid_text summary) }
@@ -41,7 +41,8 @@ pub(crate) fn valid_text(alloc: Global, summary: Summary) -> Result<String, Allo
     format!(in alloc; "valid {counts}")
 }
 
-/// What a result amounts to that was made from a list of so many vectors, and how many of these were kept.
+/// Returns the line that says what a result made from a list of `listed` vectors amounts to, and that `kept` of these
+/// were kept.
 #[tactic(auto, unfolding(crate::specs::Texts::kept_text))]
 pub(crate) fn kept_text(
     alloc: Global,
@@ -55,7 +56,7 @@ pub(crate) fn kept_text(
     format!(in alloc; "{counts} kept {kept} of {listed}\n")
 }
 
-/// What is left of a result, and how many patterns it has fewer than before.
+/// Returns the line that says what is left of a result, and how many patterns were dropped.
 #[tactic(auto, unfolding(crate::specs::Texts::dropped_text))]
 pub(crate) fn dropped_text(
     alloc: Global,

@@ -1,4 +1,4 @@
--- Where no member is open the classes are those of faults that no vector tells apart.
+-- If no member is open the classes are those of faults that no vector tells apart.
 use Rattle.std.proofs.Common.{◌≡◌, ◌∙◌, ℕ, ◌<◌, length, Option, find, unwrap_or, refl, sym, ap, subst, arith, inl, inr, ◌==◌}
 use Rattle.std.specs.List.{range_with_len}
 use Rattle.std.proofs.lemmas.Bool.{cases_eq, eq-eqb}
@@ -13,7 +13,7 @@ use Rattle.result_records.proofs.Marked.{find_some}
 use Rattle.result_file.specs.Meaning.{StatedResult, stated_class, stated_mark, lowest_mate, IsTrueResult}
 use Rattle.result_file.specs.Laws.{HasNoOpen, ClosedClassesAreEqual}
 
--- the lowest of the class is that of each number of it
+-- numbers of one class have the same lowest number
 lowest_of_class : (s : StatedResult) (m n : ℕ) → m < length s.members → stated_class s m ≡ stated_class s n → lowest_mate s m ≡ lowest_mate s n
 lowest_of_class s m n below same =
     let first : ℕ → Option ℕ = λ class. find (λ k. stated_class s k == class) (range_with_len 0 (length s.members)) in
@@ -26,7 +26,7 @@ module _ (c : Circuit) (is : IsCircuit c) (s : StatedResult) (holds : IsTrueResu
   lowest_by n below mark.Equal e = holds.equal n below e
   lowest_by n below mark.Spent e = absurd (closed n below e)
 
-  -- the lowest of its class answers as a number
+  -- the lowest of its class answers as the number does
   lowest_equal : (n : ℕ) → n < fault_count c → AreEqual c (fault_numbered c n) (fault_numbered c (lowest_mate s n))
   lowest_equal n below = lowest_by n below (stated_mark s n) refl
 

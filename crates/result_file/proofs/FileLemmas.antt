@@ -1,4 +1,4 @@
--- A file is refused in one way, and only where it isn't valid.
+-- A file is refused in one way, and only if it isn't valid.
 use Rattle.std.proofs.Common.{◌≡◌, ◌∙◌, ℕ, ◌+◌, ◌<◌, ◌≤◌, cond, List, [], ◌∷◌, ◌++◌, length, length-append, take, refl, sym, ap, ap₂, subst, arith}
 use Rattle.std.specs.Prelude.{All}
 use Rattle.std.proofs.lemmas.List.{append_assoc, append-nil, get_or-append-add}
@@ -25,7 +25,8 @@ use Rattle.result_file.proofs.FirstLine.{ended_length}
 use Rattle.result_file.proofs.RefusalLemmas.{record_once, empty_line, record_stands, rest_wrong, rest_once}
 use Rattle.result_file.proofs.RightLines.{IsNextLine}
 
--- Two cuts of a text into lines of records and a rest: they are the same, or one has a record more where the other has its rest.
+-- Two cuts of a text into lines of records and a rest: they are the same, or one has one more record at the place of
+-- the other's rest.
 data Compared (ls ms : List Record) (x y : Text) : Type 0 where
   same : ls ≡ ms → x ≡ y → Compared ls ms x y
   shorter : (r : Record) (more : List Record) → ms ≡ ls ++ r ∷ more → x ≡ spelling r ++ 10 ∷ (text_of more ++ y) → Compared ls ms x y
@@ -66,7 +67,7 @@ module _ {c : Circuit} where
   spelled_lines : {rs : List Record} → AreRightLines c rs → All HasSpelling rs
   spelled_lines {rs} right = All-from_get_or HasSpelling rs End (λ at below. right.spelled at below)
 
-  -- a record behind others on right lines is right
+  -- a record after others on right lines is right
   pub next_right : {ms : List Record} (ls : List Record) (r : Record) (more : List Record) → AreRightLines c ms → ms ≡ ls ++ r ∷ more → IsNextLine c ls r
   next_right {ms} ls r more right e =
       let lines : AreRightLines c (ls ++ r ∷ more) = subst (AreRightLines c) e right in
@@ -77,7 +78,7 @@ module _ {c : Circuit} where
       record { spelled = rw here at (lines.spelled at below); right = rw (before, here) at (lines.right at below) }
 
 module _ (c : Circuit) (is : IsCircuit c) where
-  -- a line is refused, and no right lines have a record there
+  -- a line is refused, and no right lines have a record at its place
   never_more : {ls ms : List Record} {x : Text} (reason : ResultKind) (r : Record) (more : List Record) (rest : Text) → RestRefused c ls x reason → AreRightLines c ms → ms ≡ ls ++ r ∷ more → x ≡ spelling r ++ 10 ∷ rest → ⊥
   never_more {ls} {ms} {x} reason r more rest refused right e line = let next = next_right ls r more right e in rest_wrong c is ls x reason r refused (record { spelled = next.spelled; more = rest; text_is = line }) next.right
 
@@ -114,7 +115,7 @@ module _ (c : Circuit) (is : IsCircuit c) where
   compared_lines : {file : Text} (ls ms : List Record) (x y : Text) → BeginsWithRightLines c file ls x → BeginsWithRightLines c file ms y → Compared ls ms x y
   compared_lines ls ms x y first second = compared ls ms x y (spelled_lines first.right) (spelled_lines second.right) (sym first.text ∙ second.text)
 
-  -- those of a valid file are all of it
+  -- the lines of a valid file are all of it
   all_lines : {file : Text} (valid : IsValidFile c file) → BeginsWithRightLines c file valid.records []
   all_lines valid = record { text = valid.text ∙ sym (append-nil (text_of valid.records)); right = valid.valid.lines }
 

@@ -11,7 +11,7 @@ use Rattle.text_fields.proofs.Cuts.{cut_once}
 use Rattle.result_records.proofs.FieldLemmas.{no_line_feed}
 use Rattle.result_records.proofs.HeldLemmas.{no_line_in}
 
--- a line that spells no record is refused, whatever stands behind its LF
+-- a line that spells no record is refused, whatever comes after its LF
 pub syntax_line : (line more : Text) → ¬ Contains line 10 → IsNoSpelling line → IsNoRecord (line ++ 10 ∷ more)
 syntax_line line more one never r rest spelled e = never r spelled (sym (cut_once 10 line (spelling r) more rest one (no_line_feed r spelled) e).0)
 

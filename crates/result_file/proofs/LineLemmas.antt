@@ -1,4 +1,4 @@
--- The lines of classes and of members, one by one, and the text of one line more.
+-- The lines of classes and of members, one by one, and the text of one more line.
 use Rattle.std.proofs.Common.{◌≡◌, ℕ, ◌+◌, ◌<◌, List, [], ◌∷◌, ◌++◌, map, length, get_or, Option, None, Some, take, sym, ap, ◌∙◌, arith, append_assoc}
 use Rattle.std.specs.List.{slice_get, enumerate_from, range_with_len, zip}
 use Rattle.std.proofs.lemmas.List.{map-append, length-map, take_more}
@@ -19,7 +19,7 @@ enumerate_more : {X : Type 0} (n k : ℕ) (xs : List X) (x : X) → n + length x
 enumerate_more {X} n k [] x at = ap (λ (m : ℕ). let one : List (ℕ × X) = (m, x) ∷ [] in one) (let e : n ≡ k = omega arith in e)
 enumerate_more {X} n k (y ∷ xs) x at = ap (λ (zs : List (ℕ × X)). (n, y) ∷ zs) (enumerate_more (n + 1) k xs x (omega arith))
 
--- the member lines of one number more
+-- the member lines of one more number
 pub member_lines_more : (g : ℕ → ℕ × Mark) (k : ℕ) → member_records (map g (range_with_len 0 (k + 1))) ≡ member_records (map g (range_with_len 0 k)) ++ Member k (g k).0 (g k).1 ∷ []
 member_lines_more g k =
     let f : ℕ × (ℕ × Mark) → Record = λ x. Member x.0 x.1.0 x.1.1 in
@@ -62,7 +62,7 @@ pub marked_count_lines : (classes : List ℕ) (marks : List Mark) → length mar
 marked_count_lines classes marks same =
     length-map (enumerate_from 0 (zip classes marks)) (λ x. let r : Record = Member x.0 x.1.0 x.1.1 in r) ∙ length-enumerate_from 0 (zip classes marks) ∙ omega (arith, length-zip classes marks)
 
--- ---- one line more
+-- ---- one more line
 
 module _ (all : List Record) (k : ℕ) (r : Record) (at : slice_get all k ≡ Some r) where
   next_line : take (k + 1) all ≡ take k all ++ r ∷ []
@@ -71,7 +71,7 @@ module _ (all : List Record) (k : ℕ) (r : Record) (at : slice_get all k ≡ So
   pub next_text : text_of (take (k + 1) all) ≡ text_of (take k all) ++ text_of (r ∷ [])
   next_text = ap text_of next_line ∙ text-append (take k all) (r ∷ [])
 
-  -- behind a text that has the lines before it
+  -- after a text that has the lines before it
   pub text_more : (first : Text) {so_far text : Text} → so_far ≡ first ++ text_of (take k all) → text ≡ so_far ++ text_of (r ∷ []) → text ≡ first ++ text_of (take (k + 1) all)
   text_more first {so_far} {text} before line =
       line ∙ ap (λ (t : Text). t ++ text_of (r ∷ [])) before ∙ append_assoc first (text_of (take k all)) (text_of (r ∷ [])) ∙ ap (λ (t : Text). first ++ t) (sym next_text)

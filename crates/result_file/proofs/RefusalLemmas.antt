@@ -1,4 +1,4 @@
--- A line is refused in one way, and only where it isn't right.
+-- A line is refused in one way, and only if it isn't right.
 use Rattle.std.proofs.Common.{◌≡◌, ◌≢◌, ◌∙◌, List, [], ◌∷◌, ◌++◌, sym, ap}
 use Rattle.net_model.specs.declared.fault.Fault.{Fault}
 use Rattle.net_model.specs.Circuit.{Circuit, IsCircuit}
@@ -90,7 +90,7 @@ module _ (c : Circuit) (t : ClassTable) (before : List Record) where
   content_once (Member number class m) reason other first second = first.1 ∙ sym second.1
   content_once End reason other first second = absurd first
 
--- the record on the first line of a text, and what stands behind it
+-- the record on the first line of a text, and the text after it
 pub record_once : (r other : Record) (more rest : Text) → HasSpelling r → HasSpelling other → spelling r ++ 10 ∷ more ≡ spelling other ++ 10 ∷ rest → (r ≡ other) × (more ≡ rest)
 record_once r other more rest first second e =
     let line = cut_once 10 (spelling r) (spelling other) more rest (no_line_feed r first) (no_line_feed other second) e in
@@ -108,7 +108,7 @@ one_first : {text : Text} {r other : Record} → BeginsWithRecord text r → Beg
 one_first {text} {r} {other} first second = (record_once r other first.more second.more first.spelled second.spelled (sym first.text_is ∙ second.text_is)).0
 
 module _ (c : Circuit) (is : IsCircuit c) (before : List Record) (rest : Text) where
-  -- a record is in its place or not, by whichever table
+  -- a record is allowed at its place or not, by whichever table
   never_there : {r other : Record} {reason : ResultKind} → BeginsWithRecord rest r → BeginsWithRecord rest other → IsMisplaced c before r → IsWrongThere c before other reason → ⊥
   never_there first second out there = out.out (rw (one_first first second, one_table c is out.table_is there.table_is) there.place)
 
@@ -120,7 +120,7 @@ module _ (c : Circuit) (is : IsCircuit c) (before : List Record) (rest : Text) w
   rest_wrong reason r (wrong other first there) begins right =
       content_wrong c there.table before other reason there.refused (rw (one_first first begins, one_table c is there.table_is right.table) right.content)
 
-  -- the rule that it breaks is one
+  -- a line breaks one rule
   pub rest_once : (reason other : ResultKind) → RestRefused c before rest reason → RestRefused c before rest other → reason ≡ other
   rest_once reason other (no_line early why_first) (no_line early' why_second) = why_first ∙ sym why_second
   rest_once reason other (no_line early why_first) (no_record unreadable why_second) = absurd (unreadable.some early.nothing)

@@ -20,7 +20,7 @@ use Rattle.result_file.specs.Lines.{IsRightLine, HasRightRoots, IsRightProof}
 use Rattle.result_file.specs.Valid.{AreRightLines}
 use Rattle.result_records.proofs.Marked.{found_at}
 
--- evidence stands on a line of its own
+-- evidence has a line of its own
 pub evidence_line : (lines : List Record) (k : ℕ) (e : Evidence) → slice_get (evidence_in lines) k ≡ Some e → (at : ℕ) × (slice_get lines at ≡ Some (Same e))
 evidence_line [] k e there = absurd (cc)
 evidence_line (Head s p n ∷ lines) k e there = let w = evidence_line lines k e there in (suc w.0, w.1)
@@ -106,7 +106,7 @@ taken_there (y ∷ xs) (suc n) (suc at) x there = taken_there xs n at x there
 pub rep_spent : ◌≡◌ {A = Mark} mark.Rep mark.Spent → ⊥
 rep_spent e = cc
 
--- Right evidence spends the budget.
+-- The evidence is right and spends the budget.
 pub record IsSpentBy (c : Circuit) (budgets : Budgets) (e : Evidence) : Type 0 where
   pub right : IsRightFor c budgets e
   pub gives : mark_of e.proof ≡ mark.Spent

@@ -1,4 +1,4 @@
--- Right lines behind right lines: the class lines, the member lines and the end.
+-- Right lines after right lines: the class lines, the member lines and the end.
 use Rattle.std.proofs.Common.{◌≡◌, ℕ, ◌+◌, ◌-◌, ◌<◌, ◌≤◌, ◌^◌, Bool, List, [], ◌∷◌, ◌++◌, map, length, length-append, length-take, take, get_or, Option, Some, None, refl, ap, ◌∙◌, inl, inr, arith}
 use Rattle.std.specs.Prelude.{All}
 use Rattle.std.specs.List.{slice_get, enumerate_from}
@@ -25,7 +25,7 @@ use Rattle.result_file.specs.Valid.{AreRightLines, record_at}
 use Rattle.result_file.specs.Meaning.{class_records, member_records}
 use Rattle.result_records.proofs.RecordLists.{count_kept, count_more, read_kept, read_more}
 
--- The record can be written and is right behind these lines.
+-- The record can be written and is right after these lines.
 pub record IsNextLine (c : Circuit) (before : List Record) (r : Record) : Type 0 where
   pub spelled : HasSpelling r
   pub right : IsRightLine c before r
@@ -44,7 +44,7 @@ at_append c rs xs lines next at below = elim (cases_lt at (length rs)) [
       rw (e, take-append-add rs xs k, get_or-append-add rs xs k End) (next k h)
 ]
 
--- lines that are right one behind another
+-- lines that are right one after another
 pub right_more : {c : Circuit} {rs : List Record} (xs : List Record) → AreRightLines c rs
     → ((k : ℕ) → k < length xs → IsNextLine c (rs ++ take k xs) (record_at xs k)) → AreRightLines c (rs ++ xs)
 right_more {c} {rs} xs lines next = record {
@@ -52,7 +52,7 @@ right_more {c} {rs} xs lines next = record {
   right = λ at below. (at_append c rs xs lines next at below).right;
 }
 
--- one line more
+-- one more line
 pub right_next : {c : Circuit} {rs : List Record} {r : Record} → AreRightLines c rs → IsNextLine c rs r → AreRightLines c (rs ++ r ∷ [])
 right_next {c} {rs} {r} lines next = right_more (r ∷ []) lines (λ k h. let e : k ≡ 0 = omega arith in rw (e, append-nil rs) next)
 
@@ -65,7 +65,7 @@ right_head {c} {budgets} head limits within =
     let one : AreRightLines c (Head c.sources (length c.positions) (fault_count c) ∷ []) = right_next none (record { spelled = head; right = record { t = first_table (fault_count c); table = table; place = refl; content = (refl, refl, refl) } }) in
     right_next one (record { spelled = limits; right = record { t = first_table (fault_count c); table = table; place = refl; content = within } })
 
--- patterns behind the first two lines, each of which splits a class of those before it
+-- patterns after the first two lines, each of which splits a class of those before it
 pub right_patterns : {c : Circuit} {rs : List Record} {patterns : List (List Bool)} → AreRightLines c rs → patterns_in rs ≡ [] → class_lines rs ≡ 0 → 2 ≤ length rs → All (λ v. length v ≡ c.sources) patterns
     → ((k : ℕ) → k < length patterns → SplitsClass c (take k patterns) (get_or patterns k [])) → AreRightLines c (rs ++ map Pattern patterns)
 right_patterns {c} {rs} {patterns} lines none no_class two widths splits = right_more (map Pattern patterns) lines (λ k h.
@@ -85,7 +85,8 @@ right_patterns {c} {rs} {patterns} lines none no_class two widths splits = right
       };
     }))
 
--- The lines before the class lines, with the table of their patterns: all are right, and each number is a representative or marked.
+-- The lines before the class lines, with the table of their patterns: all are right, and each number is a
+-- representative or marked.
 pub record IsBody (c : Circuit) (t : ClassTable) (before : List Record) : Type 0 where
   pub lines : AreRightLines c before
   pub table : IsTableOf c (patterns_in before) t
@@ -141,7 +142,7 @@ pub record AreMembers (t : ClassTable) (evidence : List Evidence) (members : Lis
   pub count : length members ≡ length t.class_of
   pub each : AreMembersSoFar t evidence members
 
--- The lines behind which member lines stand.
+-- The lines after which member lines come.
 record AreClassed (c : Circuit) (t : ClassTable) (evidence : List Evidence) (lines : List Record) : Type 0 where
   right : AreRightLines c lines
   table : IsTableOf c (patterns_in lines) t
@@ -194,7 +195,7 @@ right_members {c} {t} {evidence} {lines} {members} classed small are = right_mor
     rw (take-map f k numbered, get_or-map f numbered k (0, (0, mark.Rep)) End below, item)
     (right_member classed small are k inside (take k numbered) (omega (arith, length-take k numbered))))
 
--- Behind a whole body come the class lines, the member lines and the end.
+-- After a whole body come the class lines, the member lines and the end.
 pub right_table : {c : Circuit} {t : ClassTable} {before : List Record} {members : List (ℕ × Mark)} → IsBody c t before → HasSmallClasses t → AreMembers t (evidence_in before) members
     → AreRightLines c (before ++ class_records t.births ++ member_records members ++ End ∷ [])
 right_table {c} {t} {before} {members} body small are =

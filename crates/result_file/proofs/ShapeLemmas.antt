@@ -1,4 +1,5 @@
--- Lines that are right one behind another have the shape of a result: two heads, a body, the class lines, the member lines and the end.
+-- Lines that are right one after another have the shape of a result: two heads, a body, the class lines, the member
+-- lines and the end.
 use Rattle.std.proofs.Common.{◌≡◌, ◌∙◌, ℕ, ◌+◌, ◌<◌, ◌≤◌, Bool, false, cond, List, [], ◌∷◌, ◌++◌, map, length, length-append, take, length-take, get_or, Option, Some, refl, sym, ap, inl, inr, arith, IsTrue}
 use Rattle.std.specs.Prelude.{All}
 use Rattle.std.specs.List.{slice_get, enumerate_from, count_by}
@@ -102,7 +103,8 @@ member_more {t} {evidence} members class m so_far class_is mark_is =
 
 -- ---- the shape
 
--- The records are two heads, a body, a line for each class of the table of its patterns, a line for each number, and the end.
+-- The records are two heads, a body, a line for each class of the table of its patterns, a line for each number, and
+-- the end.
 pub record HasShape (c : Circuit) (sources positions numbers : ℕ) (b : Budgets) (all : List Record) : Type 0 where
   pub body : List Record
   pub t : ClassTable
@@ -113,7 +115,7 @@ pub record HasShape (c : Circuit) (sources positions numbers : ℕ) (b : Budgets
   pub are : AreMembers t (evidence_in body) members
   pub whole : all ≡ with_heads sources positions numbers b body ++ class_records t.births ++ member_records members ++ End ∷ []
 
--- A table has a class and a number.
+-- The table has a class and a number.
 abbrev pub HasSome : ClassTable → Type 0
 HasSome t = (0 < class_count t) × (0 < length t.class_of)
 
@@ -129,7 +131,7 @@ module _ (c : Circuit) (circuit : IsCircuit c) (sources positions numbers : ℕ)
     abbrev heads : List Record
     heads = with_heads sources positions numbers b body
 
-    -- behind so many class lines, and behind all of them and so many member lines
+    -- the lines with the first class lines, and with all of them and some member lines
     abbrev classed : ℕ → List Record
     classed k = heads ++ class_records (take k t.births)
 
@@ -187,7 +189,7 @@ module _ (c : Circuit) (circuit : IsCircuit c) (sources positions numbers : ℕ)
     long : (rs : List Record) → 2 ≤ length (heads ++ rs)
     long rs = omega (arith, length-append heads rs)
 
-    -- ---- behind the end nothing is in its place
+    -- ---- after the end no line is allowed
 
     none_behind : (members : List (ℕ × Mark)) (u : ClassTable) (r : Record) → 0 < length members → patterns_in (listed members ++ End ∷ []) ≡ patterns_in body → IsTableOf c (patterns_in (listed members ++ End ∷ [])) u
         → class_lines (listed members ++ End ∷ []) ≡ class_count t → member_lines (listed members ++ End ∷ []) ≡ length members → 0 < end_lines (listed members ++ End ∷ [])
@@ -215,7 +217,7 @@ module _ (c : Circuit) (circuit : IsCircuit c) (sources positions numbers : ℕ)
 
     -- ---- member lines, up to the end
 
-    -- one more member line is put behind those so far
+    -- one more member line is put after those so far
     member_put : (members : List (ℕ × Mark)) (number class : ℕ) (m : Mark) (rest : List Record) → number ≡ length members → listed members ++ Member number class m ∷ rest ≡ listed (members ++ (class, m) ∷ []) ++ rest
     member_put members number class m rest number_is =
         let before = heads ++ class_records t.births in
@@ -237,7 +239,7 @@ module _ (c : Circuit) (circuit : IsCircuit c) (sources positions numbers : ℕ)
     many_more : (members : List (ℕ × Mark)) (x : ℕ × Mark) → 0 < length (members ++ x ∷ [])
     many_more members x = omega (arith, length-append members (x ∷ []))
 
-    -- behind a member line there is no other line than a member line and the end
+    -- after a member line only a member line and the end are allowed
     end_here : (members : List (ℕ × Mark)) (rest : List Record) → 0 < length members → AreMembersSoFar t (evidence_in body) members → all ≡ listed members ++ End ∷ rest → HasShape c sources positions numbers b all
     end_here members rest many so_far e =
         let next = next_right (listed members) End rest right e in

@@ -17,7 +17,7 @@ use Rattle.result_file.specs.Meaning.{StatedResult, stated_records, class_record
 use Rattle.result_records.proofs.RecordLists.{read_kept}
 use Rattle.result_file.proofs.FileLemmas.{next_right}
 
--- a list is what is before a place, what stands there and what is behind it
+-- a list is what is before a place, the element there and what is after it
 pub parts_at : {X : Type 0} (xs : List X) (k : ℕ) (d : X) → k < length xs → xs ≡ take k xs ++ get_or xs k d ∷ drop (suc k) xs
 parts_at [] k d h = absurd (omega (arith, h))
 parts_at (x ∷ xs) zero d h = refl

@@ -39,7 +39,8 @@ use Rattle.result_file.proofs.RightLines.{AreMembers}
 use Rattle.result_records.proofs.Marked.{find_same, find_some}
 use Rattle.result_file.proofs.RightEvidence.{IsMarkedBy, all_right, mark_cases, rep_spent, open_spent}
 
--- Laws of the circuit: numbers with one root are equal faults, and so are those that a tree covers; closed leaves have closed cubes, and so many as there are vectors are never spent.
+-- Laws of the circuit: numbers with one root are equal faults, and so are those that a tree covers; closed leaves
+-- have closed cubes, and trees never spend as many of them as there are vectors.
 pub record AreSound (c : Circuit) : Type 0 where
   pub circuit : IsCircuit c
   pub roots : (m n : ℕ) → m < fault_count c → n < fault_count c → root c (fault_numbered c m) ≡ root c (fault_numbered c n) → AreEqual c (fault_numbered c m) (fault_numbered c n)
@@ -47,7 +48,8 @@ pub record AreSound (c : Circuit) : Type 0 where
   pub bounded : (f g : Fault) (limit : ℕ) (tokens : List Token) → IsSpending c f g limit tokens → limit < 2 ^ c.sources
   pub leaves : (f g : Fault) (tokens : List Token) → IsTree c f g tokens → (at : ℕ) → at < length tokens → token_at tokens at ≡ Closed → (cube : Cube) × (cube_at tokens at ≡ Some cube) × IsClosed c f g cube
 
--- The table is that of the faults of the circuit after these patterns: its classes are in place, and named patterns separate.
+-- The table is that of the faults of the circuit after these patterns: its classes are in place, and named patterns
+-- separate.
 pub record IsSoundTable (c : Circuit) (patterns : List (List Bool)) (t : ClassTable) : Type 0 where
   pub numbers : length t.class_of ≡ fault_count c
   pub some : 0 < length t.class_of
@@ -89,7 +91,7 @@ spent_by c budgets sound f g (proof.Spent tree log) right is = record {
   clauses = right.1;
 }
 
--- and then the limit is less than the number of vectors
+-- then the limit is less than the number of vectors
 spent_below : (c : Circuit) (budgets : Budgets) → AreSound c → (f g : Fault) (p : Proof) → IsRightProof c f g budgets p → mark_of p ≡ mark.Spent → budgets.cubes < 2 ^ c.sources
 spent_below c budgets sound f g proof.Collapse right is = absurd (cc)
 spent_below c budgets sound f g (proof.Covered tree) right is = absurd (cc)
@@ -164,7 +166,7 @@ module _ (c : Circuit) (budgets : Budgets) (body : List Record) (t : ClassTable)
     given : (n : ℕ) (m : Mark) → n < length t.class_of → stated_mark stated n ≡ m → ((representative t (class_at t n) ≡ n) × (mark.Rep ≡ m)) ⊎ IsMarkedBy t (evidence_in body) n m
     given n m below is = mark_cases t (evidence_in body) n m (are.each.marks n (omega (arith, are.count)) ∙ ap Some is)
 
-    -- and that it is right for the number and its representative
+    -- this evidence is right for the number and its representative
     right_for : (n : ℕ) (m : Mark) → IsMarkedBy t (evidence_in body) n m → (p : Proof) × (mark_of p ≡ m) × HasRightRoots c (fault_numbered c (representative t (class_at t n))) (fault_numbered c n) p
         × IsRightProof c (fault_numbered c (representative t (class_at t n))) (fault_numbered c n) budgets p
     right_for n m by =

@@ -26,7 +26,7 @@ module _ (c : Circuit) (sound : AreSound c) (tables : AreSoundTables c) where
   has_some : (patterns : List (List Bool)) (t : ClassTable) → All (λ v. length v ≡ c.sources) patterns → IsTableOf c patterns t → HasSome t
   has_some patterns t widths table = let is = tables patterns t widths table in (omega (arith, is.classes 0 is.some), is.some)
 
-  -- no record but these stands on the first two lines
+  -- only these records are allowed on the first two lines
   not_first : (u : ClassTable) (r : Record) → IsTableOf c [] u → ((s p n : ℕ) → r ≡ Head s p n → ⊥) → IsInPlace u [] r → ⊥
   not_first u (Head s p n) table other place = other s p n refl
   not_first u (Budget b) table other place = cc

@@ -22,7 +22,7 @@ pub record IsAccepted (c : Circuit) (records : List Record) (checked : Checked) 
   pub patterns : checked.patterns ≡ patterns_in records
   pub table : IsTableOf c (patterns_in records) checked.classes
 
--- A file is accepted that has these bytes.
+-- The bytes are those of a file that is accepted.
 pub record IsAcceptedText (c : Circuit) (fed : Text) (checked : Checked) : Type 0 where
   pub records : List Record
   pub accepted : IsAccepted c records checked

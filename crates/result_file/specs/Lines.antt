@@ -19,20 +19,22 @@ use Rattle.result_records.specs.declared.record.Record.TheVariants.{Head, Budget
 use Rattle.result_records.specs.Limits.{AreWithinLimits}
 use Rattle.result_records.specs.Marks.{evidence_in, patterns_in, class_lines, member_lines, end_lines, number_mark, next_member}
 
+-- Budgets of 0.
 abbrev pub no_budgets : Budgets
 no_budgets = record { blocks = 0; cubes = 0; conflicts = 0 }
 
+-- The budgets of a record, if it states them.
 abbrev pub budgets_of : Record → Option Budgets
 budgets_of (Budget budgets) = Some budgets
 budgets_of _ = None
 
--- the budgets that a file states
+-- The budgets that a file states first, or budgets of 0 if it states none.
 abbrev pub budgets_in : List Record → Budgets
 budgets_in records = unwrap_or (slice_get (filter_map budgets_of records) 0) no_budgets
 
 -- ---- places
 
--- A record of this kind may stand behind these lines.
+-- A record of this kind is allowed after these lines.
 abbrev pub IsInPlace : ClassTable → List Record → Record → Type 0
 IsInPlace t before (Head sources positions numbers) = before ≡ []
 IsInPlace t before (Budget budgets) = length before ≡ 1
@@ -50,20 +52,22 @@ pub record NamesNext (t : ClassTable) (before : List Record) (evidence : Evidenc
   pub partner : evidence.partner ≡ representative t (class_at t evidence.member)
 
 module _ (c : Circuit) (f g : Fault) where
-  -- By collapse the roots are the same, and else they are different.
+  -- The roots are the same for a proof by collapse, and different for any other.
   abbrev pub HasRightRoots : Proof → Type 0
   HasRightRoots proof.Collapse = root c f ≡ root c g
   HasRightRoots (proof.Covered tree) = root c f ≢ root c g
   HasRightRoots (proof.Refuted tree log) = root c f ≢ root c g
   HasRightRoots (proof.Spent tree log) = root c f ≢ root c g
 
-  -- The tree is right for the pair and the budget of cubes, and the log for the miter of the pair and the budget of conflicts.
+  -- The tree is right for the pair and the budget of cubes, and the log for the miter of the pair and the budget of
+  -- conflicts.
   abbrev pub IsRightProof : Budgets → Proof → Type 0
   IsRightProof budgets proof.Collapse = ⊤
   IsRightProof budgets (proof.Covered tree) = IsCovering c f g budgets.cubes tree
   IsRightProof budgets (proof.Refuted tree log) = IsSpending c f g budgets.cubes tree × IsRefutation (miter c f g) budgets.conflicts log
   IsRightProof budgets (proof.Spent tree log) = IsSpending c f g budgets.cubes tree × IsSpentLog (miter c f g) budgets.conflicts log
 
+-- The evidence names the next member with its representative, and its roots and its proof are right for their faults.
 pub record IsRightEvidence (c : Circuit) (t : ClassTable) (before : List Record) (evidence : Evidence) : Type 0 where
   pub next : NamesNext t before evidence
   pub roots : HasRightRoots c (fault_numbered c evidence.partner) (fault_numbered c evidence.member) evidence.proof
@@ -76,19 +80,21 @@ pub record IsRightPattern (c : Circuit) (before : List Record) (bits : List Bool
   pub width : length bits ≡ c.sources
   pub splits : SplitsClass c (patterns_in before) bits
 
--- The next class line: no number is left without a mark.
+-- The line is the next class line, with the class's birth, and no number is left without a mark.
 pub record IsRightClass (t : ClassTable) (before : List Record) (number : ℕ) (birth : Option (ℕ × ℕ)) : Type 0 where
   pub next : number ≡ class_lines before
   pub birth_is : slice_get t.births number ≡ Some birth
   pub complete : next_member t (evidence_in before) ≡ None
 
--- The next member line.
+-- The line is the next member line, with the number's class and mark.
 pub record IsRightMember (t : ClassTable) (before : List Record) (number class : ℕ) (mark : Mark) : Type 0 where
   pub next : number ≡ member_lines before
   pub inside : number < length t.class_of
   pub class_is : class ≡ class_at t number
   pub mark_is : number_mark t (evidence_in before) number ≡ Some mark
 
+-- What the record says is right after these lines: the circuit's numbers, budgets within their limits, or a right
+-- pattern, evidence, class or member.
 abbrev pub IsRightContent : Circuit → ClassTable → List Record → Record → Type 0
 IsRightContent c t before (Head sources positions numbers) = (sources ≡ c.sources) × (positions ≡ length c.positions) × (numbers ≡ fault_count c)
 IsRightContent c t before (Budget budgets) = AreWithinLimits budgets
@@ -98,7 +104,7 @@ IsRightContent c t before (Class number birth) = IsRightClass t before number bi
 IsRightContent c t before (Member number class mark) = IsRightMember t before number class mark
 IsRightContent c t before End = ⊤
 
--- The record is right behind these lines.
+-- The record is allowed after these lines, and what it says is right.
 pub record IsRightLine (c : Circuit) (before : List Record) (r : Record) : Type 0 where
   pub t : ClassTable
   pub table : IsTableOf c (patterns_in before) t

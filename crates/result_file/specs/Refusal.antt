@@ -31,11 +31,12 @@ use Rattle.result_file.specs.Valid.{AreRightLines}
 
 -- ---- evidence
 
--- The proof is refused so: its tree first, and then its log.
+-- The evidence of a pair is refused so: its tree, or if that is right its log.
 pub data PairRefused (c : Circuit) (f g : Fault) (kind : EvidenceKind) (budgets : Budgets) (tree : List Token) (log : List ChainView) (refusal : Refusal) : Type 0 where
   by_tree : TreeRefused c f g kind budgets.cubes tree refusal → PairRefused c f g kind budgets tree log refusal
   by_log : IsRightTree c f g kind budgets.cubes tree → LogRefused kind (miter c f g) budgets.conflicts log refusal → PairRefused c f g kind budgets tree log refusal
 
+-- The proof is refused so: its tree, or if that is right its log. A proof by collapse isn't refused.
 abbrev pub ProofRefused : Circuit → Fault → Fault → Budgets → Proof → Refusal → Type 0
 ProofRefused c f g budgets proof.Collapse refusal = ⊥
 ProofRefused c f g budgets (proof.Covered tree) refusal = TreeRefused c f g kind.Covered budgets.cubes tree refusal
@@ -43,13 +44,15 @@ ProofRefused c f g budgets (proof.Refuted tree log) refusal = PairRefused c f g 
 ProofRefused c f g budgets (proof.Spent tree log) refusal = PairRefused c f g kind.Spent budgets tree log refusal
 
 module _ (c : Circuit) (t : ClassTable) (before : List Record) (evidence : Evidence) where
+  -- The fault of the partner.
   abbrev pub partner_fault : Fault
   partner_fault = fault_numbered c evidence.partner
 
+  -- The fault of the member.
   abbrev pub member_fault : Fault
   member_fault = fault_numbered c evidence.member
 
-  -- Evidence is refused so: for what it names, then for the roots, then for its proof.
+  -- The evidence is refused so: for what it names, else for the roots, else for its proof.
   pub data EvidenceRefused (reason : ResultKind) : Type 0 where
     by_name : ¬ NamesNext t before evidence → reason ≡ why.Member → EvidenceRefused reason
     by_roots : NamesNext t before evidence → ¬ HasRightRoots c partner_fault member_fault evidence.proof → reason ≡ why.Roots → EvidenceRefused reason
@@ -57,7 +60,7 @@ module _ (c : Circuit) (t : ClassTable) (before : List Record) (evidence : Evide
 
 -- ---- lines
 
--- A record in its place is refused so.
+-- A record that is allowed at its place is refused so, for what it says.
 abbrev pub ContentRefused : Circuit → ClassTable → List Record → Record → ResultKind → Type 0
 ContentRefused c t before (line.Head sources positions numbers) reason = ¬ IsRightContent c t before (line.Head sources positions numbers) × (reason ≡ why.Head)
 ContentRefused c t before (line.Budget budgets) reason = ¬ IsRightContent c t before (line.Budget budgets) × (reason ≡ why.Head)
@@ -67,20 +70,20 @@ ContentRefused c t before (line.Class number birth) reason = ¬ IsRightContent c
 ContentRefused c t before (line.Member number class mark) reason = ¬ IsRightContent c t before (line.Member number class mark) × (reason ≡ why.Table)
 ContentRefused c t before line.End reason = ⊥
 
--- how long the first line of a text is, with its LF if it has one
+-- How long the first line of the text is, with its LF if it has one.
 abbrev pub line_length : Text → ℕ
 line_length rest = min (length rest) (length (take_while (λ byte. not (byte == 10)) rest) + 1)
 
--- No record that can be written is spelled so on the first line.
+-- The first line of the text, with its LF, is no record that can be written.
 abbrev pub IsNoRecord : Text → Type 0
 IsNoRecord rest = (r : Record) (more : Text) → HasSpelling r → rest ≢ spelling r ++ 10 ∷ more
 
--- The lines end before one says so.
+-- Nothing is left, and no line before says that it is the end.
 pub record EndsTooEarly (before : List Record) (rest : Text) : Type 0 where
   pub nothing : rest ≡ []
   pub unended : end_lines before ≡ 0
 
--- Something stands there, and its first line is no record.
+-- Something is left, and its first line is no record.
 pub record IsUnreadableRecord (text : Text) : Type 0 where
   pub some : text ≢ []
   pub none : IsNoRecord text
@@ -91,20 +94,20 @@ pub record BeginsWithRecord (text : Text) (r : Record) : Type 0 where
   pub more : Text
   pub text_is : text ≡ spelling r ++ 10 ∷ more
 
--- A record of this kind may not stand behind these lines.
+-- A record of this kind isn't allowed after these lines.
 pub record IsMisplaced (c : Circuit) (before : List Record) (r : Record) : Type 0 where
   pub table : ClassTable
   pub table_is : IsTableOf c (patterns_in before) table
   pub out : ¬ IsInPlace table before r
 
--- The record may stand there, and is refused so for what it says.
+-- The record is allowed at its place, and is refused so for what it says.
 pub record IsWrongThere (c : Circuit) (before : List Record) (r : Record) (reason : ResultKind) : Type 0 where
   pub table : ClassTable
   pub table_is : IsTableOf c (patterns_in before) table
   pub place : IsInPlace table before r
   pub refused : ContentRefused c table before r reason
 
--- What stands behind right lines is refused so.
+-- What comes after the right lines is refused so.
 pub data RestRefused (c : Circuit) (before : List Record) (rest : Text) (reason : ResultKind) : Type 0 where
   no_line : EndsTooEarly before rest → reason ≡ why.Order → RestRefused c before rest reason
   no_record : IsUnreadableRecord rest → reason ≡ why.Syntax → RestRefused c before rest reason
@@ -113,7 +116,7 @@ pub data RestRefused (c : Circuit) (before : List Record) (rest : Text) (reason 
 
 -- ---- files
 
--- The file begins with these right lines, and the rest stands behind them.
+-- The file begins with these right lines, and the rest comes after them.
 pub record BeginsWithRightLines (c : Circuit) (file : Text) (before : List Record) (rest : Text) : Type 0 where
   pub text : file ≡ text_of before ++ rest
   pub right : AreRightLines c before

@@ -6,16 +6,17 @@ use Rattle.result_records.specs.declared.record.Record.{Record}
 use Rattle.result_records.specs.declared.record.Record.TheVariants.{Member}
 use Rattle.result_records.specs.Marks.{patterns_in, class_lines, member_lines}
 
--- whether a line marks a member equal, and whether it leaves one open
+-- Whether the line marks a member equal.
 abbrev pub is_equal : Record → Bool
 is_equal (Member number class mark.Equal) = true
 is_equal _ = false
 
+-- Whether the line leaves a member open.
 abbrev pub is_open : Record → Bool
 is_open (Member number class mark.Spent) = true
 is_open _ = false
 
--- the numbers, patterns and classes, and the members that are marked equal or left open
+-- How many numbers, patterns and classes there are, and how many members are marked equal or left open.
 abbrev pub summary_of : List Record → Summary
 summary_of records = record {
   numbers = member_lines records;

@@ -1,4 +1,4 @@
-//! What is stated by a file that was accepted.
+//! What an accepted file states.
 
 use class_refine::Classes;
 use net_model::Vectors;

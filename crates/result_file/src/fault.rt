@@ -10,7 +10,7 @@ pub enum ResultKind {
     Syntax,
     /// The numbers aren't those of the circuit, or a budget is above its limit.
     Head,
-    /// The record may not stand here, or the file ends before its end.
+    /// The record isn't allowed at this place, or the file ends before its end line.
     Order,
     /// The pattern has a wrong number of bits, or splits no class.
     Pattern,

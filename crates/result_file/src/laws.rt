@@ -12,8 +12,9 @@ pub fn file_is_refused_once()
     ensures once { OneFileRefusal }
 {}
 
-/// What valid records state of a circuit is true of it: faults of different classes answer differently at the pattern that is
-/// named of them, equal members answer alike to every vector, and the budgets are spent on each open member.
+/// What valid records state of a circuit is true of it: faults of different classes answer differently to the pattern
+/// that is named of the classes, equal members answer as the lowest of their class to every vector, and the budgets
+/// are spent on each open member.
 pub fn valid_is_true()
     ensures records { ValidIsTrue }
     ensures file { ValidFileIsTrue }
@@ -25,8 +26,8 @@ pub fn valid_is_true()
     full_tree_is_covered();
 }
 
-/// Where no member is open two numbers are of one class exactly where their faults answer alike to every vector: no vector
-/// whatever makes more classes.
+/// If what is stated is true and no member is open, two numbers are of one class exactly if their faults answer alike
+/// to every vector: no vector makes more classes.
 pub fn closed_classes_are_equal()
     ensures { ClosedClassesAreEqual }
 {}

@@ -11,11 +11,11 @@ use class_refine::Classes;
 use result_records::{Mark, Record, push_line};
 use std::alloc::AllocError;
 
-/// Appends a line for each class.
+/// Appends a line for each class of the table. After an error the lines of some of the first classes have been
+/// appended.
 pub fn push_classes(text: &mut String, classes: &Classes) -> Result<(), AllocError>
     ensures ok { OnOk result (string_bytes text.new ≡ string_bytes text.old ++ text_of (class_records classes.now.births)) }
 
-    // After an error the lines of so many classes, from the first on, were appended.
     ensures err { OnErr result ((count : ℕ) × (string_bytes text.new ≡ string_bytes text.old ++ text_of (take count (class_records classes.now.births)))) }
 {
     for class in 0..classes.count() {
@@ -24,7 +24,7 @@ pub fn push_classes(text: &mut String, classes: &Classes) -> Result<(), AllocErr
     Ok(())
 }
 
-/// Appends the line of a class. After an error the text is as it was.
+/// Appends the line of the class. After an error nothing has changed.
 pub fn push_class_line(text: &mut String, classes: &Classes, class: u32) -> Result<(), AllocError>
     requires { class < class_count classes.now }
     ensures ok { OnOk result (string_bytes text.new ≡ string_bytes text.old ++ text_of (Class class (slice_index_or classes.now.births class None) ∷ [])) }
@@ -33,13 +33,13 @@ pub fn push_class_line(text: &mut String, classes: &Classes, class: u32) -> Resu
     push_line(text, &Record::Class(class, classes.born(class)))
 }
 
-/// Appends a line for each number, with its class in the table and its mark in the list.
+/// Appends a line for each number, with its class in the table and its mark in the list. After an error the lines of
+/// some of the first numbers have been appended.
 pub fn push_members(text: &mut String, classes: &Classes, marks: &[Mark]) -> Result<(), AllocError>
     requires whole { length marks.now ≡ length classes.now.class_of }
     requires few { length marks.now < 2 ^ 32 }
     ensures ok { OnOk result (string_bytes text.new ≡ string_bytes text.old ++ text_of (member_records (zip classes.now.class_of marks.now))) }
 
-    // After an error the lines of so many numbers, from the first on, were appended.
     ensures err { OnErr result ((count : ℕ) × (string_bytes text.new ≡ string_bytes text.old ++ text_of (take count (member_records (zip classes.now.class_of marks.now))))) }
 {
     for (number, mark) in marks.iter().enumerate() {
@@ -48,7 +48,7 @@ pub fn push_members(text: &mut String, classes: &Classes, marks: &[Mark]) -> Res
     Ok(())
 }
 
-/// Appends the line of a number with this mark. After an error the text is as it was.
+/// Appends the line of the number, with its class in the table and this mark. After an error nothing has changed.
 pub fn push_member_line(
     text: &mut String,
     classes: &Classes,

@@ -1,4 +1,4 @@
--- What a reader answers, from what the readers of its parts answer.
+-- What a reader returns, from what the readers of its parts return.
 use Rattle.std.proofs.Common.{◌≡◌, ◌≢◌, ◌∙◌, ℕ, ◌-◌, ◌<◌, ◌≤◌, Bool, true, false, List, [], ◌∷◌, ◌++◌, map, length, take, drop, get_or, Option, Some, None, Result, Ok, Err, refl, sym, ap, arith, if◌then◌else◌}
 use Rattle.std.specs.Prelude.{All, ◌==◌, flat_map, codes, decimal, IfOk, IsErrOf, IsSome, MatchOption}
 use Rattle.std.specs.Option.{option_to_list}
@@ -19,13 +19,13 @@ use Rattle.text_fields.proofs.NumberLemmas.{first_byte, first_digit, number_once
 use Rattle.result_records.proofs.OnceLemmas.{literal_once}
 use Rattle.result_records.proofs.ReadLemmas.{spelled_by, fields_by}
 
--- a fault that is handed on
+-- a fault that is passed on
 pub turned : {X Y Z W : Type 0} (P : X → Type 0) (f : X → Y) (y : Y) (Q : Z → Type 0) (g : Z → W) (w : W) (fault : RecordFault) → Reads P f y (Err fault)
     → (((x : X) → P x → f x ≡ y → ⊥) → (z : Z) → Q z → g z ≡ w → ⊥) → Reads Q g w (Err fault)
 turned P f y Q g w Syntax reads turn = turn reads
 turned P f y Q g w NoMemory reads turn = tt
 
--- fields of a tree and a log that can't be read, behind the letter of their kind
+-- fields of a tree and a log that can't be read, after the letter of their kind
 pub unread : (fresh : Bool) (texts all : List Text) (fault : RecordFault) → Reads (λ (both : List Token × List ChainView). HasTreeSpelling both.0 × All (IsChainOf fresh) both.1) (λ both. evidence_fields both.0 both.1) texts (Err fault)
     → (((tree : List Token) (log : List ChainView) → HasTreeSpelling tree → All (IsChainOf fresh) log → evidence_fields tree log ≡ texts → ⊥) → (p : Proof) → HasProofSpelling p → proof_fields p ≡ all → ⊥) → Reads HasProofSpelling proof_fields all (Err fault)
 unread fresh texts all fault reads turn =
@@ -40,7 +40,7 @@ three_texts now (x ∷ y ∷ []) d low high = absurd (omega (arith, low))
 three_texts now (x ∷ y ∷ z ∷ []) d low high = refl
 three_texts now (x ∷ y ∷ z ∷ w ∷ more) d low high = absurd (omega (arith, high))
 
--- two items, and those behind them
+-- two items, and those after them
 pub two_texts : {B : Type 0} (now : B → Text) (xs : List B) (d : B) → 2 ≤ length xs → map now xs ≡ now (get_or xs 0 d) ∷ now (get_or xs 1 d) ∷ drop 2 (map now xs)
 two_texts now [] d low = absurd (omega (arith, low))
 two_texts now (x ∷ []) d low = absurd (omega (arith, low))
@@ -67,7 +67,7 @@ no_positive false n field small dash never e = dash (decimal n) (sym e)
 positive_none : (field : Text) → ((rest : Text) → field ≡ 45 ∷ rest → ⊥) → ((m : ℕ) → IsVariableNumber m → decimal m ≡ field → ⊥) → (l : Literal) → IsLiteral l → literal_field l ≡ field → ⊥
 positive_none field dash never l small e = no_positive l.positive l.variable field small dash never e
 
--- what is read behind a dash, and what is read where there is none
+-- what is read after a dash, and what is read without one
 abbrev pub LiteralWith : Bool → Text → Option Literal → Type 0
 LiteralWith positive digits r = MatchOption r ((n : ℕ) → IsVariableNumber n → decimal n ≢ digits) (λ l. IsVariableNumber l.variable × (decimal l.variable ≡ digits) × (l.positive ≡ positive))
 
@@ -87,7 +87,7 @@ positive_read field None dash never = positive_none field dash never
 
 -- ---- chains
 
--- The steps of a chain with this start and literal.
+-- The chain has this start and literal, and its steps can be written.
 abbrev pub IsStepped : ℕ → Option Literal → ChainView → Type 0
 IsStepped start at other = All HasStepSpelling other.steps × (other.start ≡ start) × (other.fresh_at ≡ at)
 

@@ -1,4 +1,4 @@
--- The bytes of fields, and fields that are parted at blanks again.
+-- The bytes of fields, and fields that are split at blanks again.
 use Rattle.std.proofs.Common.{◌≡◌, ◌∙◌, ℕ, ◌<◌, ◌≤◌, Bool, true, false, ◌&&◌, List, [], ◌∷◌, ◌++◌, map, get_or, Option, Some, None, refl, ap, arith, lit<, lit≤}
 use Rattle.std.specs.Prelude.{All, Contains, ◌==◌, flat_map, codes, decimal}
 use Rattle.std.specs.Option.{option_to_list}
@@ -26,7 +26,7 @@ use Rattle.text_fields.proofs.NumberLemmas.{IsDecimalDigit, number_digits}
 abbrev pub IsVisible : ℕ → Type 0
 IsVisible b = (33 ≤ b) × (b < 127)
 
--- A field has visible bytes alone.
+-- A field has only visible bytes.
 abbrev pub IsField : Text → Type 0
 IsField field = All IsVisible field
 
@@ -125,7 +125,7 @@ fields_are_fields (Class number birth) small = (visible (codes "class") refl, (n
 fields_are_fields (Member number class m) small = (visible (codes "member") refl, (number_field number small.0, (number_field class small.1, (mark_is_field m, tt))))
 fields_are_fields End small = (visible (codes "end") refl, tt)
 
--- ---- fields that are joined by blanks are parted at blanks again
+-- ---- fields that are joined by blanks are split at blanks again
 
 unparted : (field : Text) → IsField field → All (λ b. (b == 32) ≡ false) field
 unparted field is = All-weaker IsVisible (λ b. (b == 32) ≡ false) (λ b there. ne_eqb b 32 (λ e. omega (arith, there.0))) field is
@@ -148,7 +148,7 @@ parted_spelling r small = parted (fields r) (fields_are_fields r small) (has_wor
 
 -- ---- the bytes of a line
 
--- A byte stands on a line of text: it is visible, or a blank.
+-- A byte of a line of text is visible or a blank.
 abbrev pub IsLineByte : ℕ → Type 0
 IsLineByte b = (32 ≤ b) × (b < 127)
 

@@ -8,7 +8,7 @@ use Rattle.result_records.specs.Held.{Event, LeadTo, fed_text, taken_lines, line
 use Rattle.result_records.specs.Held.Event.{fed, taken}
 use Rattle.text_fields.proofs.Cuts.{cut_once}
 
--- what has no LF has no line
+-- bytes without an LF have no line
 pub no_line_in : (held a x : Text) → ¬ Contains held 10 → held ≡ a ++ 10 ∷ x → ⊥
 no_line_in held a x none e = none (rw e (Contains-append_right a (10 ∷ x) 10 (0, omega arith, refl)))
 

@@ -7,7 +7,7 @@ use Rattle.net_model.specs.ClassTable.{ClassTable}
 use Rattle.result_records.specs.declared.record.Evidence.{Evidence}
 use Rattle.result_records.specs.Marks.{number_mark, next_member}
 
--- the first of a range that passes, and that none does
+-- the first number of a range that passes; none before it does
 pub find_lowest : (p : ℕ → Bool) (a k n : ℕ) → a ≤ n → n < a + k → ((m : ℕ) → a ≤ m → m < n → p m ≡ false) → p n ≡ true → find p (range_with_len a k) ≡ Some n
 find_lowest p a zero n low high before here = absurd (omega arith)
 find_lowest p a (suc k) n low high before here = elim (cases_lt a n) [
@@ -43,12 +43,12 @@ found_by_place : {X : Type 0} (b : Bool) (y : X) (rest : Option X) (xs : List X)
 found_by_place true y rest xs x found later = (0, found)
 found_by_place false y rest xs x found later = let there = later found in (suc there.0, there.1)
 
--- what is found in a range lies in it
+-- what is found in a range is in it
 pub found_within : (p : ℕ → Bool) (a k d bound : ℕ) → d < bound → a + k ≤ bound → unwrap_or (find p (range_with_len a k)) d < bound
 found_within p a zero d bound low high = low
 found_within p a (suc k) d bound low high = found_by (p a) a (find p (range_with_len (a + 1) k)) d bound (omega arith) (found_within p (a + 1) k d bound low (omega arith))
 
--- what is found in a list stands somewhere
+-- what is found in a list has a place there
 pub found_at : {X : Type 0} (p : X → Bool) (xs : List X) (x : X) → find p xs ≡ Some x → (at : ℕ) × (slice_get xs at ≡ Some x)
 found_at p [] x found = absurd (cc)
 found_at p (y ∷ xs) x found = found_by_place (p y) y (find p xs) xs x found (found_at p xs x)
@@ -57,7 +57,7 @@ first_found : (b : Bool) (a : ℕ) (rest : Option ℕ) → (x : ℕ) × (rest �
 first_found true a rest found = (a, refl)
 first_found false a rest found = found
 
--- a range that has a number which passes
+-- something is found in a range that has a number which passes
 pub find_some : (p : ℕ → Bool) (a k n : ℕ) → a ≤ n → n < a + k → p n ≡ true → (x : ℕ) × (find p (range_with_len a k) ≡ Some x)
 find_some p a zero n low high here = absurd (omega arith)
 find_some p a (suc k) n low high here = elim (cases_lt a n) [

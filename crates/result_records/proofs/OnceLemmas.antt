@@ -254,6 +254,5 @@ fields_once (Member n class m) (Member n' class' m') first second e =
 fields_once End End first second e = refl
 fields_once r other first second e = absurd (eqb-false (kind_byte r) (kind_byte other) refl (ap lead_byte e))
 
--- records with one spelling are the same
 pub spelling_once : (r other : Record) → HasSpelling r → HasSpelling other → spelling r ≡ spelling other → r ≡ other
 spelling_once r other first second e = fields_once r other first second (sym (parted_spelling r first) ∙ ap (λ (text : Text). slice_split (λ b. b == 32) text) e ∙ parted_spelling other second)

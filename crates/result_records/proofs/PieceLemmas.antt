@@ -8,7 +8,7 @@ use Rattle.std.proofs.lemmas.List.Folds.{drop_split}
 use Rattle.text_fields.specs.Fields.{Text}
 use Rattle.result_records.specs.Held.{IsFirstLine, IsWithoutLineFeed}
 
--- bytes up to an LF, and behind it
+-- bytes up to an LF, and those after it
 cut_line : (bytes : Text) (start at : ℕ) → start ≤ at → at < length bytes → get_or bytes at 0 ≡ 10 → drop start bytes ≡ slice_range bytes start at ++ 10 ∷ drop (at + 1) bytes
 cut_line bytes start at low high here =
     drop_split bytes start at low ∙ ap (λ (rest : Text). slice_range bytes start at ++ rest) (drop_more bytes at 0 high ∙ ap (λ (b : ℕ). b ∷ drop (at + 1) bytes) here)
@@ -23,7 +23,7 @@ none_between bytes start at without there =
     get_or_default bytes (start + k) 0 10 below ∙ sym (get_or-drop start bytes k 10) ∙ sym (get_or-take (at - start) rest k 10 inside) ∙ there.2 in
     without (start + k) (omega arith) (omega arith) e
 
--- what has no LF up to its end
+-- bytes that have no LF up to their end
 pub none_behind : (bytes : Text) (start : ℕ) → IsWithoutLineFeed bytes start (length bytes) → ¬ Contains (drop start bytes) 10
 none_behind bytes start without there =
     let k = there.0 in
@@ -34,6 +34,6 @@ none_behind bytes start without there =
 pub first_line : (bytes : Text) (start at : ℕ) → start ≤ at → at < length bytes → IsWithoutLineFeed bytes start at → get_or bytes at 0 ≡ 10 → IsFirstLine (drop start bytes) (slice_range bytes start at) (drop (at + 1) bytes)
 first_line bytes start at low high without here = record { one = none_between bytes start at without; cut = cut_line bytes start at low high here }
 
--- no LF up to one place, and from there to another
+-- no LF up to one place, and none from there to another
 pub without_more : (bytes : Text) (start between to : ℕ) → IsWithoutLineFeed bytes start between → IsWithoutLineFeed bytes between to → IsWithoutLineFeed bytes start to
 without_more bytes start between to first second k low high = elim (cases_lt k between) [ inl less ↦ first k low less | inr most ↦ second k most high ]

@@ -1,4 +1,4 @@
--- Logs, steps and trees that are read so far, and what fields behind them spell.
+-- Logs, steps and trees that are read so far, and what the fields after them spell.
 use Rattle.std.proofs.Common.{◌≡◌, ◌∙◌, ℕ, ◌+◌, ◌-◌, ◌<◌, ◌≤◌, Bool, List, [], ◌∷◌, ◌++◌, map, length, take, drop, get_or, length-drop, take-append-drop, drop-drop, refl, sym, ap, subst, arith}
 use Rattle.std.specs.Prelude.{All, flat_map, codes, decimal}
 use Rattle.std.proofs.lemmas.List.{append_assoc, append-nil, drop_more, drop_all, length-map, take-map, drop-map, take_rest}
@@ -15,34 +15,34 @@ use Rattle.result_records.proofs.OnceLemmas.{tree_unmarked, IsUnmarked, IsMark, 
 
 -- ---- logs
 
--- Some log of such chains spells these fields.
+-- Some log of such chains has these fields.
 abbrev pub SomeLog : Bool → List Text → Type 0
 SomeLog fresh texts = (log : List ChainView) × All (IsChainOf fresh) log × (log_fields log ≡ texts)
 
--- The log is what the fields before a place spell, and if the fields spell a log, those from that place on do.
+-- The log is what the fields before place `at` spell, and if the fields spell a log, so do those from that place up.
 pub record IsLogSoFar (fresh : Bool) (texts : List Text) (at : ℕ) (log : List ChainView) : Type 0 where
   pub inside : at ≤ length texts
   pub all : All (IsChainOf fresh) log
   pub spelled : log_fields log ++ drop at texts ≡ texts
   pub goes_on : SomeLog fresh texts → SomeLog fresh (drop at texts)
 
--- Behind a mark so many fields are those of its chain.
+-- After a mark `n` fields are those of its chain.
 pub record IsChainEnd (rest : List Text) (n : ℕ) : Type 0 where
   pub within : n ≤ length rest
   pub before : All IsUnmarked (take n rest)
   pub at : n < length rest → get_or rest n [] ≡ codes ";"
 
--- the fields up to the next mark, of a list whose texts these are
+-- the fields up to the next mark, of a list that has these texts
 pub chain_end_of : {B : Type 0} (now : B → Text) (xs : List B) (n : ℕ) → n ≤ length xs → All IsUnmarked (take n (map now xs)) → (n < length xs → get_or (map now xs) n [] ≡ codes ";") → IsChainEnd (map now xs) n
 chain_end_of now xs n within before at = record { within = omega (arith, within, length-map xs now); before = before; at = λ low. at (omega (arith, low, length-map xs now)) }
 
--- A mark stands at a place, and so many fields behind it are those of its chain.
+-- There is a mark at place `at`, and `n` fields after it are those of its chain.
 pub record BeginsChain (texts : List Text) (at n : ℕ) : Type 0 where
   pub below : at < length texts
   pub mark : get_or texts at [] ≡ codes ";"
   pub is : IsChainEnd (drop (at + 1) texts) n
 
--- the fields behind a mark, and so many of them, cut out of a list whose texts these are
+-- the fields after a mark, and `n` of them, cut out of a list that has these texts
 module _ {B : Type 0} (now : B → Text) (fields : List B) (at n : ℕ) where
   abbrev pub behind : List B
   behind = take (length fields - (at + 1)) (drop (at + 1) fields)
@@ -67,7 +67,7 @@ begins_by rest n is (x ∷ xs) e =
 begins_rest : (rest : List Text) (n : ℕ) → IsChainEnd rest n → Begins IsUnmarked IsMark (drop n rest)
 begins_rest rest n is = begins_by rest n is (drop n rest) refl
 
--- the first chain of a log that fields behind a mark spell
+-- the first chain of a log that the fields after a mark spell
 abbrev FirstChain : Bool → List Text → ℕ → Type 0
 FirstChain fresh rest n = ((chain : ChainView) × IsChainOf fresh chain × (chain_fields chain ≡ take n rest)) × SomeLog fresh (drop n rest)
 
@@ -119,7 +119,7 @@ module _ (fresh : Bool) (texts : List Text) (at : ℕ) (log : List ChainView) (s
           goes_on = λ some. subst (SomeLog fresh) after (first_chain fresh rest n begins.is (subst (SomeLog fresh) behind_mark (so_far.goes_on some))).1;
         }
 
--- the fields of a tree, and those of the log behind it
+-- the fields of a tree, and those of the log after it
 pub parts_of : (fresh : Bool) (texts : List Text) (n : ℕ) → IsChainEnd texts n → (tree : List Token) (log : List ChainView) → HasTreeSpelling tree → All (IsChainOf fresh) log → evidence_fields tree log ≡ texts
     → (map token_field tree ≡ take n texts) × (log_fields log ≡ drop n texts)
 parts_of fresh texts n is tree log spelled all e =
@@ -146,7 +146,7 @@ no_half : (text : Text) (steps : List (Literal × ℕ)) → flat_map step_fields
 no_half text [] e = cc
 no_half text (step ∷ steps) e = let rest = (tails e).1 in cc
 
--- one field more spells no step
+-- one more field spells no step
 pub half_step : (texts : List Text) (at : ℕ) (steps : List (Literal × ℕ)) → AreStepsSoFar texts at steps → at < length texts → length texts ≤ at + 1 → SomeSteps texts → ⊥
 half_step texts at steps so_far below last some =
     let more = so_far.goes_on some in

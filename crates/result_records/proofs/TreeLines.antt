@@ -1,4 +1,4 @@
--- The line of evidence with a tree: fields in a row, each token and each field of a chain behind a blank.
+-- The line of evidence with a tree: fields in a row, each token and each field of a chain after a blank.
 use Rattle.std.proofs.Common.{◌≡◌, ◌∙◌, ℕ, List, [], ◌∷◌, ◌++◌, map, refl, sym, ap}
 use Rattle.std.specs.Prelude.{flat_map, codes, decimal}
 use Rattle.std.specs.Option.{option_to_list}
@@ -11,7 +11,7 @@ use Rattle.pair_miter.specs.ChainView.{ChainView}
 use Rattle.text_fields.specs.Fields.{Text}
 use Rattle.result_records.specs.Spelling.{behind_blanks, token_field, literal_field, step_fields, chain_fields, log_fields}
 
--- a first field, and each later one behind the byte
+-- a first field, and each later one after the byte
 join_is : (x : Text) (xs : List Text) → join_with_byte 32 (x ∷ xs) ≡ x ++ behind_blanks xs
 join_is x [] = sym (append-nil x)
 join_is x (y ∷ xs) = ap (λ (rest : Text). x ++ 32 ∷ rest) (join_is y xs)
@@ -34,7 +34,7 @@ blanks_of_steps (step ∷ steps) =
     let second = 32 ∷ decimal step.1 in
     ap (λ (rest : Text). first ++ (second ++ rest)) (blanks_of_steps steps) ∙ sym (append_assoc first second (steps_text steps))
 
--- a chain, behind the field that begins it
+-- a chain, after the field that begins it
 pub blanks_of_chain : (chain : ChainView)
     → behind_blanks (codes ";" ∷ chain_fields chain) ≡ (32 ∷ codes ";") ++ (behind_blanks (map literal_field (option_to_list chain.fresh_at)) ++ ((32 ∷ decimal chain.start) ++ steps_text chain.steps))
 blanks_of_chain chain =
@@ -49,7 +49,7 @@ pub blanks_of_log : (log : List ChainView) → behind_blanks (log_fields log) �
 blanks_of_log [] = refl
 blanks_of_log (chain ∷ log) = blanks_append (codes ";" ∷ chain_fields chain) (log_fields log) ∙ ap (λ (rest : Text). chain_text chain ++ rest) (blanks_of_log log)
 
--- fields behind others
+-- fields after others
 pub join_append : (x : Text) (xs ys : List Text) → join_with_byte 32 (x ∷ xs ++ ys) ≡ join_with_byte 32 (x ∷ xs) ++ behind_blanks ys
 join_append x xs ys =
     join_is x (xs ++ ys) ∙ ap (λ (rest : Text). x ++ rest) (blanks_append xs ys) ∙ sym (append_assoc x (behind_blanks xs) (behind_blanks ys))

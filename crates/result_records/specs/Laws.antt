@@ -5,19 +5,19 @@ use Rattle.result_records.specs.declared.record.Record.{Record}
 use Rattle.result_records.specs.Spelling.{spelling, HasSpelling}
 use Rattle.result_records.specs.Held.{Event, LeadTo, fed_text, taken_lines, lines_text}
 
--- records with one spelling are the same
+-- Records with one spelling are the same.
 abbrev pub OneSpelling : Type 0
 OneSpelling = (r other : Record) → HasSpelling r → HasSpelling other → spelling r ≡ spelling other → r ≡ other
 
--- a spelling has no LF
+-- A spelling has no LF.
 abbrev pub SpellingIsLine : Type 0
 SpellingIsLine = (r : Record) → HasSpelling r → ¬ Contains (spelling r) 10
 
--- the lines that were taken, each with its LF, and what is held then are all that was fed
+-- The lines that were taken, each with its LF, and what is held then are all that was fed.
 abbrev pub LinesGiveAll : Type 0
 LinesGiveAll = (events : List Event) (held : Text) → LeadTo [] events held → lines_text (taken_lines events) ++ held ≡ fed_text events
 
--- the same bytes give the same lines, where no more can be taken
+-- The same bytes give the same lines and leave the same bytes held, if no more lines can be taken.
 abbrev pub LinesAreAlike : Type 0
 LinesAreAlike = (events others : List Event) (held other : Text) → LeadTo [] events held → LeadTo [] others other → fed_text events ≡ fed_text others
     → ¬ Contains held 10 → ¬ Contains other 10 → (taken_lines events ≡ taken_lines others) × (held ≡ other)

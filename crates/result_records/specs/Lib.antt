@@ -1,7 +1,6 @@
 pub mod Spelling
 pub mod Limits
 pub mod Marks
--- Reading
 pub mod Reading
 pub mod Held
 pub mod Laws

@@ -14,7 +14,7 @@ use pair_sets::Tree;
 use std::alloc::Global;
 use text_fields::number_of;
 
-/// The proof that these fields spell.
+/// Returns the proof that these fields spell.
 pub(crate) fn read_proof(alloc: Global, fields: &[&str]) -> Result<Proof, RecordFault>
     ensures { Reads HasProofSpelling proof_fields (map (λ f. f.now) fields.now) result }
 {
@@ -30,7 +30,7 @@ pub(crate) fn read_proof(alloc: Global, fields: &[&str]) -> Result<Proof, Record
     }
 }
 
-// A proof by collapse, which has no further field.
+// Reads a proof by collapse, which has no further field.
 fn read_collapse(fields: &[&str]) -> Result<Proof, RecordFault>
     ensures { Reads HasProofSpelling proof_fields (codes "C" ∷ map (λ f. f.now) fields.now) result }
 {
@@ -40,14 +40,14 @@ fn read_collapse(fields: &[&str]) -> Result<Proof, RecordFault>
     Ok(Proof::Collapse)
 }
 
-// A covering tree.
+// Reads a covering tree.
 fn read_covered(alloc: Global, fields: &[&str]) -> Result<Proof, RecordFault>
     ensures { Reads HasProofSpelling proof_fields (codes "T" ∷ map (λ f. f.now) fields.now) result }
 {
     Ok(Proof::Covered(read_tree(alloc, fields)?))
 }
 
-// A tree with the log of a refutation, which has a chain.
+// Reads a tree with the log of a refutation, which has a chain.
 fn read_refuted(alloc: Global, fields: &[&str]) -> Result<Proof, RecordFault>
     ensures { Reads HasProofSpelling proof_fields (codes "R" ∷ map (λ f. f.now) fields.now) result }
 {
@@ -58,7 +58,7 @@ fn read_refuted(alloc: Global, fields: &[&str]) -> Result<Proof, RecordFault>
     Ok(Proof::Refuted(tree, log))
 }
 
-// A tree with the log of spent budgets.
+// Reads a tree with the log of spent budgets.
 fn read_spent(alloc: Global, fields: &[&str]) -> Result<Proof, RecordFault>
     ensures { Reads HasProofSpelling proof_fields (codes "O" ∷ map (λ f. f.now) fields.now) result }
 {
@@ -66,7 +66,7 @@ fn read_spent(alloc: Global, fields: &[&str]) -> Result<Proof, RecordFault>
     Ok(Proof::Spent(tree, log))
 }
 
-// A tree, and the log behind it, whose chains name literals at which they are fresh, or don't.
+// Reads a tree and the log after it. If `fresh` each chain names a literal at which it is fresh, else none does.
 fn read_tree_and_log(
     alloc: Global,
     fields: &[&str],
@@ -80,7 +80,7 @@ fn read_tree_and_log(
     Ok((tree, log))
 }
 
-// How many fields stand before the first one that begins a chain.
+// Returns how many fields come before the first one that begins a chain.
 fn first_mark(fields: &[&str]) -> usize
     ensures within { result ≤ length fields.now }
     ensures before { All (λ f. f ≢ codes ";") (take result (map (λ f. f.now) fields.now)) }
@@ -94,7 +94,7 @@ fn first_mark(fields: &[&str]) -> usize
     fields.len()
 }
 
-// A tree, which has a token.
+// Reads a tree, which has a token.
 fn read_tree(alloc: Global, fields: &[&str]) -> Result<Tree, RecordFault>
     ensures { Reads HasTreeSpelling (λ tree. map token_field tree) (map (λ f. f.now) fields.now) result }
 {
@@ -111,7 +111,7 @@ fn read_tree(alloc: Global, fields: &[&str]) -> Result<Tree, RecordFault>
     Ok(tree)
 }
 
-// A log of chains, each behind a field that begins it.
+// Reads a log of chains, each after a field that begins it.
 fn read_log(alloc: Global, fields: &[&str], fresh: bool) -> Result<Log, RecordFault>
     ensures { Reads (All (IsChainOf fresh)) log_fields (map (λ f. f.now) fields.now) result }
 {
@@ -130,7 +130,7 @@ fn read_log(alloc: Global, fields: &[&str], fresh: bool) -> Result<Log, RecordFa
     Ok(log)
 }
 
-// A chain, which names a literal at which it is fresh, or doesn't.
+// Reads a chain, which names a literal at which it is fresh exactly if `fresh`.
 fn read_chain(alloc: Global, fields: &[&str], fresh: bool) -> Result<Chain, RecordFault>
     ensures { Reads (IsChainOf fresh) chain_fields (map (λ f. f.now) fields.now) result }
 {
@@ -146,7 +146,7 @@ fn read_chain(alloc: Global, fields: &[&str], fresh: bool) -> Result<Chain, Reco
     read_clauses(alloc, clauses, Some(at))
 }
 
-// The clauses of a chain: the first one, and then each pivot with the clause that is resolved with.
+// Reads the clauses of a chain: the first one, and then each pivot with the clause that is resolved with.
 fn read_clauses(alloc: Global, fields: &[&str], at: Option<Lit>) -> Result<Chain, RecordFault>
     requires { HasLiteralSpelling at }
     ensures { Reads (λ chain. HasChainSpelling chain × (chain.fresh_at ≡ at)) clause_fields (map (λ f. f.now) fields.now) result }
@@ -160,7 +160,7 @@ fn read_clauses(alloc: Global, fields: &[&str], at: Option<Lit>) -> Result<Chain
     read_steps(Chain::new(alloc, start, at), steps)
 }
 
-// A chain with these steps, each a pivot and a clause.
+// Adds the steps that the fields spell to the chain, each a pivot and a clause.
 fn read_steps(mut chain: Chain, fields: &[&str]) -> Result<Chain, RecordFault>
     requires { chain.steps ≡ [] }
     ensures { Reads (λ (other : ChainView). All HasStepSpelling other.steps × (other.start ≡ chain.start) × (other.fresh_at ≡ chain.fresh_at)) (λ other. flat_map step_fields other.steps) (map (λ f. f.now) fields.now) result }

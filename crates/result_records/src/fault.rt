@@ -6,7 +6,7 @@ ghost use Rattle.result_records.specs.declared.fault.RecordFault.TheVariants as 
 use std::alloc::AllocError;
 use thiserror::Error;
 
-/// Why a line wasn't read.
+/// Why a line wasn't read: it is no record, or memory is missing.
 #[derive(Debug, Drop, Error)]
 pub enum RecordFault {
     #[error("the line is no record")]

@@ -8,7 +8,7 @@ pub fn record_is_spelled_once()
     ensures line { SpellingIsLine }
 {}
 
-/// The lines that are taken and what is held are the bytes that were fed, and they are the same however these were cut.
+/// The taken lines and what is held are the bytes that were fed, and they are the same however these were cut.
 pub fn lines_are_what_was_fed()
     ensures all { LinesGiveAll }
     ensures alike { LinesAreAlike }

@@ -1,4 +1,4 @@
-//! The records of a result file, how they are spelled, written and read, and lines of bytes in pieces.
+//! The records of a result file, how they are spelled, written and read, and lines of bytes that come in pieces.
 #![tactic(auto)]
 
 mod evidence;

@@ -1,13 +1,13 @@
 //! The limits of a result and of its budgets.
 
-/// The most bytes of a result.
+/// How many bytes a result has at most.
 pub const RESULT_LIMIT: u64 = 1_099_511_627_776;
 
-/// The most blocks of the stream.
+/// How many blocks of the stream there are at most.
 pub const BLOCKS_LIMIT: u32 = 65_536;
 
-/// The most closed leaves of a tree.
+/// How many closed leaves a tree has at most.
 pub const CUBES_LIMIT: u32 = 1_048_576;
 
-/// The most learned clauses of a log.
+/// How many learned clauses a log has at most.
 pub const CONFLICTS_LIMIT: u32 = 100_000;

@@ -14,7 +14,7 @@ pub struct Lines {
     // what was fed; the bytes before `start` are taken
     bytes: Vec<u8>,
     start: usize,
-    // no LF stands from `start` up to here, so that no byte is looked at twice
+    // there is no LF from `start` up to here, so that no byte is looked at twice
     looked: usize,
 }
 
@@ -30,6 +30,7 @@ impl Model for Lines {
 }
 
 impl Lines {
+    /// Returns lines that hold no bytes.
     pub fn new(alloc: Global) -> Lines
         ensures { result ≡ [] }
     {
@@ -40,7 +41,7 @@ impl Lines {
         }
     }
 
-    /// Appends a piece to what is held.
+    /// Appends a piece to what is held. After an error nothing has changed.
     pub fn feed(&mut self, piece: &[u8]) -> Result<(), AllocError>
         ensures ok { OnOk result (self.new ≡ self.old ++ piece.now) }
         ensures err { OnErr result (self.new ≡ self.old) }
@@ -50,7 +51,8 @@ impl Lines {
         Ok(())
     }
 
-    /// Takes the first line out and answers it without its LF. There is none exactly where what is held has no LF.
+    /// Takes the first line out and returns it without its LF. Returns none exactly if what is held has no LF; then,
+    /// and after an error, nothing has changed.
     pub fn take_line(&mut self) -> Result<Option<Vec<u8>>, AllocError>
         ensures ok { IfOk result (λ taken. MatchOption taken ((¬ Contains self.old 10) × (self.new ≡ self.old)) (λ line. IsFirstLine self.old line.items self.new)) }
         ensures err { OnErr result (self.new ≡ self.old) }
@@ -65,15 +67,15 @@ impl Lines {
         Ok(Some(line))
     }
 
-    /// What is held.
+    /// Returns what is held: the bytes that were fed and not taken.
     pub fn rest(&self) -> &[u8]
         ensures { result.now ≡ self.now }
     {
         &self.bytes[self.start..]
     }
 
-    // Moves what is held to the front, where no more bytes are held than were taken since the last time: so a byte is moved
-    // at most once for each byte that is taken.
+    // Moves what is held to the front, unless more bytes are held than were taken since the last move: so no more
+    // bytes are moved than are taken.
     fn drop_taken(&mut self)
         ensures { self.new ≡ self.old }
     {
@@ -87,7 +89,7 @@ impl Lines {
     }
 }
 
-// The first LF of bytes from a place on.
+// Returns the place of the first LF, starting at place `from`, if there is one.
 fn find_end(bytes: &[u8], from: usize) -> Option<usize>
     requires { from ≤ length bytes.now }
     ensures { MatchOption result (IsWithoutLineFeed bytes.now from (length bytes.now)) (λ end. IsFirstFrom bytes.now from end) }

@@ -14,7 +14,8 @@ use crate::words::{bits_of, mark_of};
 use std::alloc::{AllocError, Global};
 use text_fields::number_of;
 
-/// The record that a line spells, without its LF. The line is refused exactly where it is no record's spelling.
+/// Returns the record that the line spells; the line is given without its LF. Returns `Syntax` exactly if the line is
+/// the spelling of no record.
 pub fn read_record(alloc: Global, line: &[u8]) -> Result<Record, RecordFault>
     ensures read { IfOk result (λ r. HasSpelling r × (spelling r ≡ line.now)) }
     ensures refused { IsErrOf result record_fault.Syntax → IsNoSpelling line.now }
@@ -25,14 +26,14 @@ pub fn read_record(alloc: Global, line: &[u8]) -> Result<Record, RecordFault>
     read_fields(alloc, fields_of(alloc, text)?.as_slice())
 }
 
-// The parts of a text between its blanks.
+// Returns the parts of the text between its blanks.
 fn fields_of<'a>(alloc: Global, text: &'a str) -> Result<Vec<&'a str>, AllocError>
     ensures { IfOk result (λ parts. map (λ f. f.now) parts.items ≡ slice_split (λ b. b == 32) text.now) }
 {
     text.split(' ').collect(alloc)
 }
 
-// The record that these fields spell.
+// Returns the record that these fields spell.
 fn read_fields(alloc: Global, parts: &[&str]) -> Result<Record, RecordFault>
     ensures { Reads HasSpelling fields (map (λ f. f.now) parts.now) result }
 {
@@ -141,7 +142,7 @@ fn read_end(rest: &[&str]) -> Result<Record, RecordFault>
     }
 }
 
-// The numbers that three fields spell, and no more.
+// Returns the numbers that the fields spell, if there are exactly three fields and each spells one.
 fn three_numbers(parts: &[&str]) -> Option<(u32, u32, u32)>
     ensures { MatchOption result ((a b c : ℕ) → IsNumber a → IsNumber b → IsNumber c → decimal a ∷ decimal b ∷ decimal c ∷ [] ≢ map (λ f. f.now) parts.now)
         (λ n. IsNumber n.0 × IsNumber n.1 × IsNumber n.2 × (decimal n.0 ∷ decimal n.1 ∷ decimal n.2 ∷ [] ≡ map (λ f. f.now) parts.now)) }
@@ -153,7 +154,7 @@ fn three_numbers(parts: &[&str]) -> Option<(u32, u32, u32)>
     Some((first, second, number_of(third)?))
 }
 
-// The numbers that two fields spell.
+// Returns the numbers that the two fields spell, if each spells one.
 fn two_numbers(first: &str, second: &str) -> Option<(u32, u32)>
     ensures { MatchOption result ((a b : ℕ) → IsNumber a → IsNumber b → decimal a ≡ first.now → decimal b ≢ second.now)
         (λ n. IsNumber n.0 × IsNumber n.1 × (decimal n.0 ≡ first.now) × (decimal n.1 ≡ second.now)) }

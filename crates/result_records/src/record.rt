@@ -11,7 +11,7 @@ pub struct Budgets {
     pub conflicts: u32,
 }
 
-/// A representative; a member that is equal to it; a member on which the budgets were spent.
+/// A representative; a member that is equal to it; or a member on which the budgets were spent.
 #[derive(Clone, Copy, Debug, PartialEq, Eq)]
 pub enum Mark {
     Rep,
@@ -19,9 +19,10 @@ pub enum Mark {
     Spent,
 }
 
-/// What is known of a member and its representative: both faults have the same root of the fault collapse; a tree of
-/// cubes in none of which a vector separates them covers all vectors; a log of resolutions refutes that some vector
-/// separates them, behind a tree with an open leaf; or such a tree and a log of learned clauses have spent the budgets.
+/// What is known of a member and its representative. Both faults have the same root of the fault collapse
+/// (`Collapse`). A tree of cubes, in none of which a vector separates them, covers all vectors (`Covered`). A log of
+/// resolutions refutes that some vector separates them, after a tree with an open leaf (`Refuted`). Or such a tree
+/// and a log of learned clauses have spent the budgets (`Spent`).
 #[derive(Debug, Drop)]
 pub enum Proof {
     Collapse,
@@ -30,7 +31,7 @@ pub enum Proof {
     Spent(Tree, Log),
 }
 
-/// Evidence for a member of a class and the class's representative.
+/// Evidence for a member of a class and the class's representative, the partner.
 #[derive(Debug)]
 pub struct Evidence {
     pub member: u32,
@@ -38,7 +39,7 @@ pub struct Evidence {
     pub proof: Proof,
 }
 
-// Written out, it is one step in the proof of each function that lets evidence or a record go, where a derived one is a
+// Written by hand, it is one step in the proof of each function that drops evidence or a record. A derived one is a
 // step for each part of each proof.
 impl Drop for Evidence {
     fn drop(self) {
@@ -50,8 +51,9 @@ impl Drop for Evidence {
     }
 }
 
-/// A line of a result file: the sources, positions and numbers; the budgets; a pattern; evidence; a class with its
-/// parent and the pattern that cut it off, none for class 0; a number with its class and mark; the end.
+/// A line of a result file: the sources, positions and numbers (`Head`); the budgets; a pattern; evidence (`Same`); a
+/// class with its parent and the pattern that cut it off, none for class 0; a number with its class and mark
+/// (`Member`); or the end.
 #[derive(Drop)]
 pub enum Record {
     Head(u32, u32, u32),

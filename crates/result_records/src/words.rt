@@ -17,7 +17,7 @@ use pair_sets::Token;
 use std::alloc::Global;
 use text_fields::number_of;
 
-/// The literal that a field spells: a number, with a dash before it where it is negative.
+/// Returns the literal that the field spells: a number, with a dash before it if the literal is negative.
 pub(crate) fn literal_of(field: &str) -> Option<Lit>
     ensures { MatchOption result ((l : Literal) → IsLiteral l → literal_field l ≢ field.now) (λ l. IsLiteral l × (literal_field l ≡ field.now)) }
 {
@@ -27,7 +27,7 @@ pub(crate) fn literal_of(field: &str) -> Option<Lit>
     }
 }
 
-// The literal of the variable that digits spell.
+// Returns the literal of the variable that the digits spell.
 fn literal_with(digits: &str, positive: bool) -> Option<Lit>
     ensures { MatchOption result ((n : ℕ) → IsVariableNumber n → decimal n ≢ digits.now) (λ l. IsVariableNumber l.variable × (decimal l.variable ≡ digits.now) × (l.positive ≡ positive)) }
 {
@@ -38,7 +38,7 @@ fn literal_with(digits: &str, positive: bool) -> Option<Lit>
     Some(Lit::new(variable, positive))
 }
 
-/// The token that a field spells.
+/// Returns the token that the field spells.
 pub(crate) fn token_of(field: &str) -> Option<Token>
     ensures { MatchOption result ((t : token.Token) → HasTokenSpelling t → token_field t ≢ field.now) (λ t. HasTokenSpelling t × (token_field t ≡ field.now)) }
 {
@@ -49,7 +49,7 @@ pub(crate) fn token_of(field: &str) -> Option<Token>
     }
 }
 
-/// The mark that a field spells.
+/// Returns the mark that the field spells.
 pub(crate) fn mark_of(field: &str) -> Option<Mark>
     ensures { MatchOption result ((m : mark.Mark) → mark_field m ≢ field.now) (λ m. mark_field m ≡ field.now) }
 {
@@ -61,7 +61,7 @@ pub(crate) fn mark_of(field: &str) -> Option<Mark>
     }
 }
 
-/// The bits that a field spells: a digit for each, or a dash where there are none.
+/// Returns the bits that the field spells: a digit for each, or a dash if there are none.
 pub(crate) fn bits_of(alloc: Global, field: &str) -> Result<Bits, RecordFault>
     ensures { Reads (λ bits. ⊤) bits_text field.now result }
 {

@@ -15,7 +15,7 @@ use pair_sets::{Token, Tree};
 use std::alloc::{AllocError, Global};
 use text_fields::push_bits;
 
-/// The line of a record, with its LF.
+/// Returns the line of the record, with its LF.
 pub fn write_record(alloc: Global, r: &Record) -> Result<Vec<u8>, AllocError>
     ensures { IfOk result (λ line. line.items ≡ spelling r.now ++ 10 ∷ []) }
 {
@@ -24,7 +24,7 @@ pub fn write_record(alloc: Global, r: &Record) -> Result<Vec<u8>, AllocError>
     Ok(line.into_bytes())
 }
 
-/// Appends the line of a record, with its LF. After an error the text is as it was.
+/// Appends the line of the record, with its LF. After an error nothing has changed.
 pub fn push_line(text: &mut String, r: &Record) -> Result<(), AllocError>
     ensures ok { OnOk result (string_bytes text.new ≡ string_bytes text.old ++ text_of (r.now ∷ [])) }
     ensures err { OnErr result (string_bytes text.new ≡ string_bytes text.old) }
@@ -34,7 +34,7 @@ pub fn push_line(text: &mut String, r: &Record) -> Result<(), AllocError>
     text.push_str(&line)
 }
 
-// Appends the line of a record, with its LF. Nothing is said of the text after an error.
+// Appends the line of the record, with its LF. Nothing is said of the text after an error.
 fn push_record(text: &mut String, r: &Record) -> Result<(), AllocError>
     ensures { OnOk result (string_bytes text.new ≡ string_bytes text.old ++ text_of (r.now ∷ [])) }
 {
@@ -75,7 +75,7 @@ fn push_budget(text: &mut String, budgets: Budgets) -> Result<(), AllocError>
     writeln!(text, "budget {blocks} {cubes} {conflicts}")
 }
 
-/// Appends the line of a pattern, with its LF. After an error the text is as it was.
+/// Appends the line of a pattern of these bits, with its LF. After an error nothing has changed.
 #[tactic(auto, unfolding(crate::specs::Spelling::spelling))]
 pub fn push_pattern(text: &mut String, bits: &Bits) -> Result<(), AllocError>
     ensures ok { OnOk result (string_bytes text.new ≡ string_bytes text.old ++ text_of (Pattern bits.now ∷ [])) }
@@ -90,7 +90,7 @@ pub fn push_pattern(text: &mut String, bits: &Bits) -> Result<(), AllocError>
     pushed
 }
 
-// Appends bits and the LF. After an error something of it may stand behind the text.
+// Appends the bits and the LF. After an error some bytes may have been appended.
 fn push_digits(text: &mut String, bits: &Bits) -> Result<(), AllocError>
     ensures ok { OnOk result (string_bytes text.new ≡ string_bytes text.old ++ bits_text bits.now ++ 10 ∷ []) }
     ensures err { OnErr result ((some : List ℕ) × (string_bytes text.new ≡ string_bytes text.old ++ some)) }
@@ -170,7 +170,7 @@ fn push_kind(text: &mut String, member: u32, partner: u32, kind: &str) -> Result
     write!(text, "same {member} {partner} {kind}")
 }
 
-// Appends the tokens of a tree, a blank before each.
+// Appends the tokens of the tree, a blank before each.
 fn push_tree(text: &mut String, tree: &Tree) -> Result<(), AllocError>
     ensures { OnOk result (string_bytes text.new ≡ string_bytes text.old ++ flat_map (λ token. 32 ∷ token_field token) tree.now) }
 {
@@ -180,7 +180,7 @@ fn push_tree(text: &mut String, tree: &Tree) -> Result<(), AllocError>
     Ok(())
 }
 
-// Appends a blank and a token.
+// Appends a blank and the token.
 fn push_token(text: &mut String, token: Token) -> Result<(), AllocError>
     ensures { OnOk result (string_bytes text.new ≡ string_bytes text.old ++ 32 ∷ token_field token) }
 {

@@ -9,7 +9,7 @@ use clause_pool::Lit;
 use pair_miter::{Chain, Log};
 use std::alloc::AllocError;
 
-/// Appends the chains of a log, a blank before each field.
+/// Appends the chains of the log, a blank before each field.
 pub(crate) fn push_log(text: &mut String, log: &Log) -> Result<(), AllocError>
     ensures { OnOk result (string_bytes text.new ≡ string_bytes text.old ++ flat_map (λ chain. behind_blanks (codes ";" ∷ chain_fields chain)) log.now) }
 {
@@ -29,7 +29,7 @@ fn push_chain(text: &mut String, chain: &Chain) -> Result<(), AllocError>
     push_steps(text, chain.steps())
 }
 
-// Appends the literal at which a chain is fresh, where it names one.
+// Appends the literal at which a chain is fresh, if it names one.
 fn push_fresh(text: &mut String, at: Option<Lit>) -> Result<(), AllocError>
     ensures { OnOk result (string_bytes text.new ≡ string_bytes text.old ++ behind_blanks (map literal_field (option_to_list at))) }
 {
@@ -50,14 +50,14 @@ fn push_steps(text: &mut String, steps: &[(Lit, u32)]) -> Result<(), AllocError>
     Ok(())
 }
 
-// Appends a blank and a number.
+// Appends a blank and the number.
 fn push_number(text: &mut String, number: u32) -> Result<(), AllocError>
     ensures { OnOk result (string_bytes text.new ≡ string_bytes text.old ++ 32 ∷ decimal number) }
 {
     write!(text, " {number}")
 }
 
-// Appends a blank and a literal.
+// Appends a blank and the literal.
 fn push_literal(text: &mut String, l: Lit) -> Result<(), AllocError>
     ensures { OnOk result (string_bytes text.new ≡ string_bytes text.old ++ 32 ∷ literal_field l) }
 {

@@ -18,7 +18,7 @@ use Rattle.net_model.specs.ClassTable.{ClassTable}
 use Rattle.dict_rows.specs.AnswerTable.{Answers, AreAnswers}
 
 module _ {c : Circuit} {all : List Record} (right : AreRightLines c all) where
-  -- a record behind others is right behind them
+  -- A record after others is right after them.
   right_behind : (before : List Record) (r : Record) (rest : List Record) → all ≡ before ++ r ∷ rest → IsRightLine c before r
   right_behind before r rest e =
       let lines : AreRightLines c (before ++ r ∷ rest) = subst (AreRightLines c) e right in
@@ -38,7 +38,7 @@ module _ {c : Circuit} {all : List Record} (right : AreRightLines c all) where
 pub valid_widths : {c : Circuit} {records : List Record} → IsValid c records → All (λ v. length v ≡ c.sources) (patterns_in records)
 valid_widths {c} {records} valid = widths_from valid.lines [] records refl
 
--- so are those that a check answers, and the table is theirs
+-- The patterns that a check returns have this width, and the table is theirs.
 module _ {c : Circuit} {records : List Record} {checked : Checked} (is : IsAccepted c records checked) where
   pub checked_widths : All (λ v. length v ≡ c.sources) checked.patterns
   checked_widths = subst (All (λ v. length v ≡ c.sources)) (sym is.patterns) (valid_widths is.valid)
@@ -46,7 +46,7 @@ module _ {c : Circuit} {records : List Record} {checked : Checked} (is : IsAccep
   pub checked_table : IsTableOf c checked.patterns checked.classes
   checked_table = subst (λ (patterns : List (List Bool)). IsTableOf c patterns checked.classes) (sym is.patterns) is.table
 
--- the answers whose classes a table has
+-- The answers whose classes a table has.
 abbrev pub answers_of_table : {c : Circuit} {patterns : List (List Bool)} {t : ClassTable} → IsTableOf c patterns t → Answers
 answers_of_table {c} {patterns} {t} is = record { numbers = fault_count c; positions = length c.positions; rows = is.rows }
 

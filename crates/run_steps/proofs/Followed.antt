@@ -22,7 +22,7 @@ use Rattle.run_steps.specs.Steps.{HasOnlyRead, HasReadBytes, CouldNotRead, by_fa
 use Rattle.run_steps.proofs.HandedOn.{handed_on}
 use Rattle.run_steps.proofs.Runs.{MayBreak, cut_among, ran, leaves_moved, stays_same, stays_then, stays_facts, stays_read}
 
--- a run may fail to read
+-- The endings allow a run to fail to read and to break off.
 pub record MayRead (endings : List Ending) : Type 0 where
   pub failed : IsAmong read_failed endings
   pub breaks : MayBreak endings
@@ -37,13 +37,13 @@ not_held : (o : Option Text) → o ≡ None → IsSome o → ⊥
 not_held None none some = cc
 not_held (Some x) none some = cc
 
--- `?` hands on why a run is over
+-- `?` passes on why a run is over.
 pub handed_follows : {plan : Plan} {endings : List Ending} {outputs : List Text} {why : RunFault} {a b : State} (ending : Ending) → IsErrAnd ending (λ x. x ≡ why) → Follows plan endings outputs (Err why) a b → Follows plan endings outputs ending a b
 handed_follows {plan} {endings} {outputs} {why} {a} {b} ending is follows = subst (λ (e : Ending). Follows plan endings outputs e a b) (sym (handed_on ending is)) follows
 
 -- ---- nothing is done
 
--- memory was wanting behind the last read
+-- Memory was missing after the last read.
 pub follows_nothing : {plan : Plan} {endings : List Ending} {outputs : List Text} (a : State) → MayBreak endings → Follows plan endings outputs no_memory a a
 follows_nothing {plan} {endings} {outputs} a breaks = record {
   ends = breaks.memory;
@@ -64,7 +64,8 @@ follows_nothing {plan} {endings} {outputs} a breaks = record {
 
 -- ---- what was read before
 
--- What is promised from a plan on is promised of another plan, from where something was read: in these worlds the other leads to it.
+-- In world `u` the plan `other` leads to what `plan` does in world `v`: what `plan` calls for, may leave, and leaves to
+-- read.
 pub record Leads (other plan : Plan) (u v : World) : Type 0 where
   pub calls : (o : Outcome) → CallsFor v.files plan o → CallsFor u.files other o
   pub leaves : (made : List (Text × List ℕ)) (text : List ℕ) → MayLeave v.files plan made text → MayLeave u.files other made text
@@ -100,7 +101,7 @@ follows_after {endings} {outputs} {ending} {a} {b} {c} {other} {plan} facts read
 
 -- ---- a file that ends the run
 
--- a failed read or want of memory is no ending that words and files decide, and no failed write
+-- A failed read or missing memory is no ending that words and files decide, and no failed write.
 undecided : {ending : Ending} → (ending ≡ read_failed) ⊎ (ending ≡ no_memory) → IsDecided ending → ⊥
 undecided {ending} (inl e) decided = subst IsDecided e decided
 undecided {ending} (inr e) decided = subst IsDecided e decided
@@ -109,11 +110,11 @@ unwritten : {ending : Ending} → (ending ≡ read_failed) ⊎ (ending ≡ no_me
 unwritten {ending} (inl e) is = cc
 unwritten {ending} (inr e) is = cc
 
--- a text is said that refuses a file
+-- The text that refuses a file is printed.
 abbrev refusal_plan : FileKind → Text → Plan
 refusal_plan kind console = finish (λ o. o ≡ said (refused kind) console) never_cut
 
--- a plan leads to a refusal
+-- A plan leads to a refusal.
 leads_to_refusal : {a m : State} {name console : Text} {kind : FileKind} {X : Type 0} {Refused : Text → Text → Type 0} {Accepted : Text → X → Type 0} {next : X → Plan} → WasRefused name kind Refused console a m → Told a m (Leads (judged name kind X Refused Accepted next) (refusal_plan kind console))
 leads_to_refusal {a} {m} {name} {console} {kind} {X} {Refused} {Accepted} {next} was told =
     let h = was.held told in
@@ -162,7 +163,7 @@ module _ {endings : List Ending} {outputs : List Text} {a b : State} {name : Tex
 -- ---- a file that is accepted
 
 module _ {a b : State} {name : Text} {kind : FileKind} {X : Type 0} {Refused : Text → Text → Type 0} {Accepted : Text → X → Type 0} {next : X → Plan} {x : X} (was : WasAccepted name kind Accepted x a b) where
-  -- a plan leads to what is done next
+  -- A plan leads to what is done next.
   leads_on : Told a b (Leads (judged name kind X Refused Accepted next) (next x))
   leads_on told =
       let h = was.held told in
@@ -177,35 +178,35 @@ module _ {a b : State} {name : Text} {kind : FileKind} {X : Type 0} {Refused : T
   goes_on {endings} {outputs} {ending} {c} law r =
       follows_after was.facts was.only leads_on (λ s all. let h = was.held (law s) in subst (λ (f : Files). AreHeld f (next x)) (sym (was.only (law s)).files) (all.1 h.0 x h.1 h.2)) r
 
-  -- and then memory was missing
+  -- The file is accepted, and then memory was missing.
   pub no_memory_after : {endings : List Ending} {outputs : List Text} → MayRead endings → (ending : Ending) → IsErrAnd ending (λ why. why ≡ run.NoMemory) → (IsTrue a.sure → IsTrue a.tells) → Follows (judged name kind X Refused Accepted next) endings outputs ending a b
   no_memory_after {endings} {outputs} may ending is law = handed_follows ending is (goes_on law (follows_nothing b may.breaks))
 
 -- ---- how a file ends the run
 
--- a call that read it failed
+-- A call that read the file failed.
 pub fault_read : {T : Type 0} {name : Text} {a b : State} (fault : ShelfFault) → IsReadCall {T = T} (Err fault) a b → Told a b OnlyReads → (IsTrue a.sure → fault ≡ Failed → get a.world.files name ≡ None) → CouldNotRead name (read_fault fault) a b
 fault_read {T} {name} {a} {b} Failed call only absent = by_failure refl (call.failed refl) (record { stays = stays_read call; writes = call.writes; only = only }) (λ s. absent s refl)
 fault_read {T} {name} {a} {b} NoMemory call only absent = by_memory refl (record { stays = stays_read call; writes = call.writes; only = only }) (λ s. call.memory s refl)
 
 module _ {name : Text} {kind : FileKind} {Refused : Text → Text → Type 0} {a b : State} where
-  -- memory was wanting to judge it
+  -- Memory was missing to judge the file.
   pub over_memory : SameFacts a b → Told a b OnlyReads → IsOver name kind Refused run.NoMemory a b
   over_memory facts only = by_reading (by_memory refl (record { stays = stays_facts facts; writes = facts.writes; only = only }) (λ s. facts.reads))
 
-  -- it is refused, and the console says so, or memory was wanting for that
+  -- The file is refused, and the console says so, or memory was missing for that.
   pub over_said : {console : Option Text} {why : RunFault} {c : State} → SameFacts a b → Told a b OnlyReads → Told a b (IsLeftBehind kind name) → ((text : Text) → console ≡ Some text → IsTrue a.tells → (bytes : Text) × (get a.world.files name ≡ Some bytes) × Refused bytes text) → IsSaid console kind why b c → IsOver name kind Refused why a c
   over_said {console} {why} {c} facts only left held (by_text text is ends) = by_refusal text b (record { facts = facts; only = only; held = held text is; left = left }) ends
   over_said {console} {why} {c} facts only left held (by_want is same) = subst (λ (w : RunFault). IsOver name kind Refused w a c) (sym is) (subst (λ (s : State). IsOver name kind Refused run.NoMemory a s) (sym same) (over_memory facts only))
 
--- what was read is accepted
+-- What was read is accepted.
 pub was_accepted : {X : Type 0} {name bytes : Text} {kind : FileKind} {Accepted : Text → X → Type 0} {x : X} {a b : State} → HasReadBytes name kind bytes a b → ((all : Text) → bytes ≡ read_of (limit_of kind) all → Accepted all x) → WasAccepted name kind Accepted x a b
 was_accepted {X} {name} {bytes} {kind} {Accepted} {x} {a} {b} read accepted = record { facts = read.facts; only = read.only; held = λ told. let r = read.held told in (r.0, r.1, accepted r.0 r.2); left = read.left }
 
--- a call that read leaves the facts
+-- A call that read a file leaves the facts.
 pub facts_read : {T : Type 0} {x : T} {a b : State} → IsReadCall (Ok x) a b → SameFacts a b
 facts_read {T} {x} {a} {b} call = facts_after_read x a a b (facts_same a) call
 
--- a call that opened the file, and then one that failed
+-- A call opened the file, and then another one failed.
 pub read_after : {T U : Type 0} {x : U} {fault : ShelfFault} {a b c : State} → IsReadCall (Ok x) a b → IsReadCall {T = T} (Err fault) b c → IsReadCall {T = T} (Err fault) a c
 read_after {T} {U} {x} {fault} {a} {b} {c} opened call = failed_after (Err fault) fault a b c (facts_read opened) call refl

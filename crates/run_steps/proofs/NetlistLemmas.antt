@@ -1,4 +1,4 @@
--- What is judged of the bytes that were read is judged of the whole file, and nothing is both accepted and refused.
+-- What holds of the bytes that were read holds of the whole file, and nothing is both accepted and refused.
 use Rattle.std.proofs.Common.{◌≡◌, ℕ, ◌+◌, ◌<◌, length, take, ap, ◌∙◌, arith}
 use Rattle.std.specs.Prelude.{◌==◌}
 use Rattle.std.specs.List.{count_by}
@@ -18,7 +18,7 @@ use Rattle.run_steps.specs.Netlists.{IsDesign, IsRefused, by_text, by_loop}
 abbrev place_with : ℕ → ℕ → Place
 place_with byte line = record { byte = byte; line = line }
 
--- the place of a byte up to which all was read
+-- A byte has the same place in the text that ends with it.
 place_read : (byte : ℕ) (all : Text) → place_of (take (byte + 1) all) byte ≡ place_of all byte
 place_read byte all =
     let place = λ (text : Text). place_with byte (count_by (λ b. b == 10) text + 1) in

@@ -1,4 +1,4 @@
--- The endings of requests by the files that they read, and the ends of plans.
+-- The endings of requests, by the files that they read, and the ends of plans.
 use Rattle.std.proofs.Common.{List, [], ◌∷◌, refl, inl, inr}
 use Rattle.diag_shelf.specs.World.{State}
 use Rattle.text_fields.specs.Fields.{Text}
@@ -38,7 +38,6 @@ walk_read = record { failed = inr (inr (inr (inl refl))); breaks = record { writ
 
 -- ---- a file and a text
 
--- a file is made under a name, and a text is printed
 pub makes_follows : (AreMade : Text → Text → Type 0) {name file text : Text} {endings : List Ending} {outputs : List Text} {ending : Ending} {a b : State} → MayBreak endings → IsAmong done endings → IsAmong name outputs → AreMade file text
     → Ends (saved ((name, file) ∷ []) text) (IsPartOf (saved ((name, file) ∷ []) text)) ending a b → Follows (makes_file name AreMade) endings outputs ending a b
 makes_follows AreMade {name} {file} {text} {endings} {outputs} {ending} {a} {b} breaks zero among is ends =
@@ -47,7 +46,6 @@ makes_follows AreMade {name} {file} {text} {endings} {outputs} {ending} {a} {b} 
 
 -- ---- texts
 
--- a text is printed
 pub says_follows : (IsText : Text → Type 0) {text : Text} {endings : List Ending} {outputs : List Text} {ending : Ending} {a b : State} → MayBreak endings → IsAmong done endings → IsText text → Ends (said done text) (IsPartOf (said done text)) ending a b → Follows (says IsText) endings outputs ending a b
 says_follows IsText {text} {endings} {outputs} {ending} {a} {b} breaks zero is ends =
     ran (record { decided = tt; among = zero; breaks = breaks; names = λ made t part. cut_among made [] outputs part.files tt }) (λ s. (text, is, refl)) (λ made t part. inl (said done text, (text, is, refl), part)) ends

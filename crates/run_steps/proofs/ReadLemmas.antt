@@ -1,4 +1,5 @@
--- What was read of a file is all of it, or one byte more than the limit; and what is judged of that is judged of the file.
+-- What was read of a file is all of it, or one byte more than the limit; what holds of the bytes that were read holds
+-- of the file.
 use Rattle.std.proofs.Common.{◌≡◌, ◌≢◌, ℕ, ◌+◌, ◌≤◌, ◌<◌, Bool, List, [], ◌∷◌, Option, Some, None, length, length-append, length-take, refl, sym, ap, subst, ◌∙◌, inl, inr, arith, zero-le}
 use Rattle.std.specs.Prelude.{◌==◌, ◌^◌}
 use Rattle.std.specs.List.{count_by}
@@ -41,14 +42,14 @@ read_whole limit all h = take_all (limit + 1) all (omega arith)
 pub long_read : (limit : ℕ) (all bytes : Text) → bytes ≡ read_of limit all → limit < length all → length bytes ≤ limit → ⊥
 long_read limit all bytes e long short = omega (arith, short, ap length e, length-take (limit + 1) all)
 
--- what is said of the bytes that were read is said of the file, if it is where the file goes beyond the limit
+-- What holds of the bytes that were read holds of the file, if that follows for a file beyond the limit.
 pub read_as_file : {limit : ℕ} {all bytes : Text} (Said : Text → Type 0) → bytes ≡ read_of limit all → (limit < length all → Said bytes → Said all) → Said bytes → Said all
 read_as_file {limit} {all} {bytes} Said e beyond is = elim (cases_lt limit (length all)) [
   | inl long ↦ beyond long is
   | inr short ↦ subst Said (e ∙ read_whole limit all short) is
 ]
 
--- so it is of what is only said of bytes that are no more than the limit
+-- It also does if it holds only of bytes within the limit.
 pub said_of_file : {limit : ℕ} {all bytes : Text} (Said : Text → Type 0) → (Said bytes → length bytes ≤ limit) → bytes ≡ read_of limit all → Said bytes → Said all
 said_of_file {limit} {all} {bytes} Said few e is = read_as_file Said e (λ long said. absurd (long_read limit all bytes e long (few said))) is
 
@@ -66,7 +67,7 @@ refused_long {all} {bytes} {fault} e long is = elim is.refused [
   | inr rest ↦ absurd (long_read DICTIONARY_LIMIT all bytes e long rest.0)
 ]
 
--- a fault that has a rule isn't want of memory
+-- A fault that has a rule isn't that memory is missing.
 ruled : (fault : DictFault) {place : Text × ℕ} → dictionary_rule fault ≡ Some place → fault ≢ NoMemory
 ruled fault {place} is none = let bad : Some place ≡ None = sym is ∙ ap dictionary_rule none in absurd (cc)
 
@@ -81,7 +82,7 @@ refused_dictionary_read {all} {bytes} {console} fault e told is =
 
 -- ---- texts of lines
 
--- the line of the byte up to which all was read
+-- The line of the byte at the limit is the same in the bytes that were read and in the file.
 line_read : (limit : ℕ) (all : Text) {bytes : Text} → bytes ≡ read_of limit all → line_number bytes limit ≡ line_number all limit
 line_read limit all {bytes} e = ap (λ (t : Text). line_number t limit) e ∙ ap (λ (t : Text). count_by (λ b. b == 10) t + 1) (take-take limit (limit + 1) all (omega arith))
 
@@ -109,17 +110,17 @@ plan_lines_read {all} {bytes} {kind} {number} e refused = read_as_file (λ (b : 
   | plan.at_line before rest short right is refusal at ↦ absurd (long_read TEXT_LIMIT all bytes e long short)
 ]) refused
 
--- what a fault tells of a log or a list of vectors
+-- A fault of a log or a list of vectors that has a text is a refusal with this text.
 pub refused_by_some : {Told Refused : LogKind → ℕ → Type 0} {console : Text} → ((kind : LogKind) (number : ℕ) → Told kind number → Refused kind number) → (fault : LogFault) → TellsLogFault Told fault → log_fault_text fault ≡ Some console → IsRefusedBySome Refused console
 refused_by_some {Told} {Refused} {console} law (log.At kind line) told is = record { kind = kind; line = line; refused = law kind line told; console_is = some_text is }
 refused_by_some {Told} {Refused} {console} law log.NoMemory told is = absurd (cc)
 
--- of a list of vectors, in a command that may read a log too
+-- The same for a list of vectors in a command that may read a log too.
 pub refused_vectors : {c : Circuit} {all console : Text} {Told : LogKind → ℕ → Type 0} → ((kind : LogKind) (number : ℕ) → Told kind number → VectorsRefused c.sources all kind number) → (fault : LogFault) → TellsLogFault Told fault → list_fault_text fault ≡ Some console → IsRefusedVectors c all console
 refused_vectors {c} {all} {console} {Told} law (log.At kind line) told is = record { kind = kind; line = line; refused = law kind line told; console_is = some_text is }
 refused_vectors {c} {all} {console} {Told} law log.NoMemory told is = absurd (cc)
 
--- and of an adaptive plan
+-- The same for an adaptive plan.
 pub refused_plan_read : {all bytes console : Text} (fault : PlanFault) → bytes ≡ read_of TEXT_LIMIT all → plan.TellsPlanFault (plan.PlanRefused bytes) fault → adaptive_fault_text fault ≡ Some console → IsRefusedPlan all console
 refused_plan_read {all} {bytes} {console} (plan_fault.At kind line) e told is = record { kind = kind; line = line; refused = plan_lines_read e told; console_is = some_text is }
 refused_plan_read {all} {bytes} {console} plan_fault.NoMemory e told is = absurd (cc)
@@ -139,11 +140,11 @@ walk_read adaptive {all} {bytes} {outcome} e is = said_of_file (λ (b : Text). I
 pub list_read : (c : Circuit) {all bytes : Text} {vectors : List (List Bool)} → bytes ≡ read_of TEXT_LIMIT all → IsListFor c bytes vectors → IsListFor c all vectors
 list_read c {all} {bytes} {vectors} e is = said_of_file (λ (b : Text). IsListFor c b vectors) (λ (list : IsListFor c bytes vectors). list.short) e is
 
--- each row has a byte at least
+-- Each row has at least one byte.
 row_bytes : (line : LineForm) (n : ℕ) (rows : List (List Bool)) → length rows ≤ length (lines_from line n rows)
 row_bytes line n [] = zero-le
 row_bytes line n (row ∷ rows) = omega (arith, length-append (line n row) (10 ∷ lines_from line (n + 1) rows), row_bytes line (n + 1) rows)
 
--- so a list that is no longer than the limit has few vectors
+-- A list that is no longer than the limit has few vectors.
 pub few_vectors : {sources : ℕ} {bytes : Text} {vectors : List (List Bool)} → IsVectorList sources bytes vectors → length vectors < 2 ^ 32
 few_vectors {sources} {bytes} {vectors} is = omega (arith, is.short, ap length is.text_is, row_bytes listed_vector 0 vectors)

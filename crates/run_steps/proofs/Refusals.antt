@@ -1,4 +1,4 @@
--- How the faults of a netlist are refusals of its bytes.
+-- The faults of a netlist are refusals of its bytes.
 use Rattle.std.proofs.Common.{◌≡◌, List, Some, sym, ap, subst, ◌∙◌, refl}
 use Rattle.net_model.specs.declared.circuit.Design.{Design}
 use Rattle.net_model.specs.Circuit.{IsCircuit}
@@ -23,7 +23,7 @@ read_refused bytes text (fault.At kind place) is known = by_text kind place.byte
 read_refused bytes text (fault.Loop place names) is known = absurd known
 read_refused bytes text fault.NoMemory is known = absurd (cc)
 
--- What is known of a fault that the cut answers.
+-- What is known of a fault that the cut returns.
 pub record IsCutFault (netlist : Netlist) (f : NetFault) : Type 0 where
   pub looped : (place : Place) (names : List Text) → f ≡ fault.Loop place names → IsNetlistLoop netlist place names
   pub no_rule : (kind : NetKind) (place : Place) → f ≡ fault.At kind place → ⊥
@@ -33,7 +33,7 @@ cut_refused bytes text netlist (fault.At kind place) accepted is known = absurd 
 cut_refused bytes text netlist (fault.Loop place names) accepted is known = by_loop netlist place names accepted (known.looped place names refl) (sym (some_text is))
 cut_refused bytes text netlist fault.NoMemory accepted is known = absurd (cc)
 
--- the cut of an accepted netlist is its design
+-- The cut of an accepted netlist is its design.
 pub is_design : {bytes : Text} {netlist : Netlist} {design : Design} → IsNetlist bytes netlist → design ≡ cut_design netlist → IsCircuit design.circuit → IsDesign bytes design
 unfolding cut_design
 is_design {bytes} {netlist} {design} accepted is circuit =

@@ -1,4 +1,5 @@
--- What was read of a result's file: where it is accepted it is all of the file, and where it is refused the file is.
+-- If the bytes that were read of a result's file are accepted they are all of the file; if they are refused the file
+-- is.
 use Rattle.std.proofs.Common.{◌≡◌, ◌+◌, ◌≤◌, ◌<◌, ◌++◌, Some, length, length-take, sym, ap, subst, ◌∙◌, inl, inr, arith}
 use Rattle.std.specs.Prelude.{drop}
 use Rattle.std.proofs.lemmas.Bool.{cases_lt}
@@ -16,7 +17,7 @@ use Rattle.run_steps.specs.Texts.{result_text}
 use Rattle.run_steps.specs.Results.{IsResult, IsRefusedResult}
 use Rattle.run_steps.proofs.ReadLemmas.{read_whole, long_read, read_as_file, some_text}
 
--- bytes that are accepted are all of the file
+-- Bytes that are accepted are all of the file.
 pub result_read : {c : Circuit} {all bytes : Text} {checked : Checked} → bytes ≡ read_of RESULT_LIMIT all → IsAcceptedText c bytes checked → IsResult c all bytes
 result_read {c} {all} {bytes} {checked} e is =
     let few : length bytes ≤ RESULT_LIMIT = subst (λ (t : Text). length t ≤ RESULT_LIMIT) (sym is.text_is) is.accepted.short in
@@ -25,7 +26,7 @@ result_read {c} {all} {bytes} {checked} e is =
       | inr short ↦ record { same = sym (e ∙ read_whole RESULT_LIMIT all short); valid = record { records = is.records; text = is.text_is; valid = is.accepted.valid; short = few } }
     ]
 
--- what bytes are refused for, and what any file is that begins with them where they go beyond the limit
+-- A fault of the bytes that were read is a fault of the file.
 refused_behind : {c : Circuit} {all bytes : Text} {fault : ResultFault} → bytes ≡ read_of RESULT_LIMIT all → IsRefusedEnd c bytes fault → FileRefused c all fault
 refused_behind {c} {all} {bytes} {fault} e is = read_as_file {limit = RESULT_LIMIT} (λ (t : Text). FileRefused c t fault) e (λ long whole.
     let full : RESULT_LIMIT < length bytes = omega (arith, long, ap length e, length-take (RESULT_LIMIT + 1) all) in

@@ -1,4 +1,4 @@
--- From what the last steps of a run do to what the whole run promises.
+-- What the last steps of a run do keeps what the whole run promises.
 use Rattle.std.proofs.Common.{◌≡◌, ◌≢◌, ℕ, ◌≤◌, ◌⊎◌, List, [], ◌∷◌, ◌++◌, take, length, Option, Some, None, Result, Ok, Err, refl, sym, ap, subst, ◌∙◌, inl, inr, arith, zero-le, IsTrue}
 use Rattle.std.specs.Result.{IsErrAnd}
 use Rattle.std.specs.FinMap.{get, insert}
@@ -17,17 +17,17 @@ use Rattle.run_steps.specs.Plan.{finish, IsLeftBy}
 use Rattle.run_steps.specs.Ran.{IsAmong, IsBroken, Stays, Ends, Follows}
 use Rattle.run_steps.proofs.HandedOn.{handed_on}
 
--- all files of the outcome have these names
+-- The name of each made file is one of `names`.
 abbrev pub MadeAmong : List (Text × List ℕ) → List Text → Type 0
 MadeAmong [] names = Unit {0}
 MadeAmong (m ∷ made) names = IsAmong m.0 names × MadeAmong made names
 
--- a run may break off
+-- The endings allow a run to break off.
 pub record MayBreak (endings : List Ending) : Type 0 where
   pub write : IsAmong write_failed endings
   pub memory : IsAmong no_memory endings
 
--- an outcome that a run may have which ends in one of these ways and makes files of these names
+-- A run may have the outcome if it ends in one of these ways and makes files of these names.
 pub record Fits (endings : List Ending) (outputs : List Text) (o : Outcome) (Part : List (Text × List ℕ) → List ℕ → Type 0) : Type 0 where
   pub decided : IsDecided o.ending
   pub among : IsAmong o.ending endings
@@ -61,7 +61,7 @@ others_after [] names files name among off = refl
 others_after (m ∷ made) names files name among off =
     others_after made names (insert files m.0 m.1) name among.1 off ∙ get_off_insert files m.0 m.1 name (apart name m.0 names among.0 off)
 
--- the files of a part have the names of the whole
+-- The files of a part have names of the whole.
 pub cut_among : (cut whole : List (Text × List ℕ)) (names : List Text) → IsCut cut whole → MadeAmong whole names → MadeAmong cut names
 cut_among [] whole names cut among = tt
 cut_among (c ∷ cs) [] names cut among = absurd cut
@@ -72,7 +72,7 @@ cut_among (c ∷ d ∷ cs) (m ∷ whole) names cut among =
 pub leaves_moved : {made : List (Text × List ℕ)} {text : List ℕ} {u v w : World} → OnlyReads u v → Leaves made text v w → Leaves made text u w
 leaves_moved {made} {text} only l = record { files = l.files ∙ ap (after_made made) only.files; written = l.written ∙ ap (written_after made) only.written; console = l.console ∙ ap (λ (x : List ℕ). x ++ text) only.console }
 
--- bytes that are written to a new file are the file
+-- A new file has exactly the bytes that are written to it.
 pub written_anew : (files : Files) (name bytes : List ℕ) → appended (Some name) (insert files name []) bytes ≡ insert files name bytes
 written_anew files name [] = refl
 written_anew files name (b ∷ bytes) =
@@ -93,7 +93,7 @@ fault_broken : (fault : ShelfFault) → IsBroken (Err (write_fault fault))
 fault_broken Failed = inl refl
 fault_broken NoMemory = inr refl
 
--- a run breaks off where a write failed
+-- A run breaks off after a fault of a write.
 pub write_broken : (fault : ShelfFault) {ending : Ending} → ending ≡ Err (write_fault fault) → IsBroken ending
 write_broken fault {ending} is = subst IsBroken (sym is) (fault_broken fault)
 
@@ -104,7 +104,7 @@ fault_failed NoMemory e = absurd (cc)
 failed_of : {fault : ShelfFault} {ending : Ending} → ending ≡ Err (write_fault fault) → ending ≡ write_failed → fault ≡ Failed
 failed_of {fault} {ending} is e = fault_failed fault (sym is ∙ e)
 
--- such an ending isn't one that words and files decide
+-- The ending of a run that breaks off isn't one that words and files decide.
 pub apart_from : {meant ending : Ending} → IsDecided meant → IsBroken ending → ending ≡ meant → ⊥
 apart_from {meant} {ending} decided (inl a) z = subst IsDecided (sym z ∙ a) decided
 apart_from {meant} {ending} decided (inr a) z = subst IsDecided (sym z ∙ a) decided
@@ -116,7 +116,7 @@ still : {T : Type 0} (fault : ShelfFault) (a b : State) → IsWriteCall {T = T} 
 still Failed a b call s n = absurd (n refl)
 still NoMemory a b call s n = call.memory s refl
 
--- a text was said
+-- A text was printed.
 pub ends_said : {T : Type 0} {x : T} {ending : Ending} {text : List ℕ} {a b : State} → IsDecided ending → IsWriteCall (Ok x) a b → Told a b (Prints text) → Ends (said ending text) (IsPartOf (said ending text)) ending a b
 ends_said {T} {x} {ending} {text} {a} {b} decided call printed = record {
   stays = stays_written call;
@@ -132,7 +132,7 @@ ends_said {T} {x} {ending} {text} {a} {b} decided call printed = record {
   rest = λ told. (printed told).rest;
 }
 
--- a beginning of a text was said
+-- A beginning of a text was printed.
 pub ends_said_part : {T : Type 0} {fault : ShelfFault} {meant ending : Ending} {text : List ℕ} {a b : State} → IsDecided meant → IsWriteCall {T = T} (Err fault) a b → Told a b (OfSome Prints text) → (IsTrue a.sure → fault ≡ Failed → ⊥) → ending ≡ Err (write_fault fault) → Ends (said meant text) (IsPartOf (said meant text)) ending a b
 ends_said_part {T} {fault} {meant} {ending} {text} {a} {b} decided call printed never is = record {
   stays = stays_written call;
@@ -148,7 +148,7 @@ ends_said_part {T} {fault} {meant} {ending} {text} {a} {b} decided call printed 
   rest = λ told. (printed told).2.rest;
 }
 
--- no file was made
+-- No file was made.
 pub ends_unmade : {T : Type 0} {fault : ShelfFault} {whole : List (Text × List ℕ)} {text : List ℕ} {Part : List (Text × List ℕ) → List ℕ → Type 0} {ending : Ending} {a b : State} → Part [] [] → IsWriteCall {T = T} (Err fault) a b → Told a b Same → (IsTrue a.sure → fault ≡ Failed → ⊥) → ending ≡ Err (write_fault fault) → Ends (saved whole text) Part ending a b
 ends_unmade {T} {fault} {whole} {text} {Part} {ending} {a} {b} none call same never is = record {
   stays = stays_written call;
@@ -162,7 +162,7 @@ ends_unmade {T} {fault} {whole} {text} {Part} {ending} {a} {b} none call same ne
   rest = λ told. (same told).rest;
 }
 
--- a new file was made, and a part of it was written
+-- A new file was made, and a part of it was written.
 pub ends_cut : {T U : Type 0} {x : T} {fault : ShelfFault} {name : Text} {whole : List (Text × List ℕ)} {text : List ℕ} {Part : List (Text × List ℕ) → List ℕ → Type 0} {ending : Ending} {a b c : State} → (IsTrue b.sure → IsTrue b.tells) → IsWriteCall (Ok x) a b → Told a b (Creates name) → IsWriteCall {T = U} (Err fault) b c → Told b c (λ u v. (part : List ℕ) × Part ((name, part) ∷ []) [] × Writes part u v) → (IsTrue b.sure → fault ≡ Failed → b.world.written ≡ None) → ending ≡ Err (write_fault fault) → Ends (saved whole text) Part ending a c
 ends_cut {T} {U} {x} {fault} {name} {whole} {text} {Part} {ending} {a} {b} {c} law made created wrote cut absent is = record {
   stays = stays_then (stays_written made) (stays_written wrote);
@@ -182,7 +182,7 @@ ends_cut {T} {U} {x} {fault} {name} {whole} {text} {Part} {ending} {a} {b} {c} l
   rest = λ told. (cut (made.tells ∙ told)).2.rest ∙ (created told).rest;
 }
 
--- a new file was made whole before the rest was done
+-- A new file was made whole before the rest was done.
 pub ends_after : {T U : Type 0} {x : T} {y : U} {name bytes text : List ℕ} {made : List (Text × List ℕ)} {Part Whole : List (Text × List ℕ) → List ℕ → Type 0} {ending : Ending} {a b c d : State} → (IsTrue a.tells → (m : List (Text × List ℕ)) (t : List ℕ) → Part m t → Whole ((name, bytes) ∷ m) t) → IsWriteCall (Ok x) a b → Told a b (Creates name) → IsWriteCall (Ok y) b c → Told b c (Writes bytes) → Ends (saved made text) Part ending c d → Ends (saved ((name, bytes) ∷ made) text) Whole ending a d
 ends_after {T} {U} {x} {y} {name} {bytes} {text} {made} {Part} {Whole} {ending} {a} {b} {c} {d} parts create created write written e = record {
   stays = stays_then (stays_written create) (stays_then (stays_written write) e.stays);
@@ -198,7 +198,7 @@ ends_after {T} {U} {x} {y} {name} {bytes} {text} {made} {Part} {Whole} {ending} 
   rest = λ told. e.rest (write.tells ∙ create.tells ∙ told) ∙ (written (create.tells ∙ told)).rest ∙ (created told).rest;
 }
 
--- a file that is whole comes before what is cut
+-- A whole file comes before what is cut.
 pub cut_after : (name : Text) (bytes : List ℕ) (made whole : List (Text × List ℕ)) → IsCut made whole → IsCut ((name, bytes) ∷ made) ((name, bytes) ∷ whole)
 cut_after name bytes [] whole cut = (refl, (length bytes, le_refl (length bytes), sym (take_all (length bytes) bytes (le_refl (length bytes)))))
 cut_after name bytes (m ∷ made) whole cut = (refl, cut)
@@ -210,7 +210,7 @@ part_after name bytes text whole made t part = record {
   order = λ some. ap (λ (m : List (Text × List ℕ)). (name, bytes) ∷ m) (part.order some);
 }
 
--- no file, or a file of which a beginning was written, is a part of what is to be made
+-- No file, or a file with a beginning of its bytes, is a part of what is to be made.
 pub none_made : {whole : List (Text × List ℕ)} {text : List ℕ} → IsPartOf (saved whole text) [] []
 none_made {whole} {text} = record { files = tt; console = (0, zero-le, refl); order = λ some. absurd (some refl) }
 
@@ -223,7 +223,7 @@ meant_ending : {meant ending : Ending} → (ending ≡ meant) ⊎ IsBroken endin
 meant_ending {meant} {ending} (inl e) decided = e
 meant_ending {meant} {ending} (inr broken) decided = absurd (apart_from decided broken refl)
 
--- no read failed
+-- The ending isn't that a read failed.
 not_unread : {meant ending : Ending} → IsDecided meant → (ending ≡ meant) ⊎ IsBroken ending → ending ≡ read_failed → ⊥
 not_unread {meant} {ending} decided (inl e) is = subst IsDecided (sym e ∙ is) decided
 not_unread {meant} {ending} decided (inr (inl e)) is = cc
@@ -234,7 +234,7 @@ ended_among {endings} {meant} {ending} breaks among (inl e) = subst (λ (x : End
 ended_among {endings} {meant} {ending} breaks among (inr (inl e)) = subst (λ (x : Ending). IsAmong x endings) (sym e) breaks.write
 ended_among {endings} {meant} {ending} breaks among (inr (inr e)) = subst (λ (x : Ending). IsAmong x endings) (sym e) breaks.memory
 
--- what the last steps do is what the end of a plan promises
+-- What the last steps do is what the end of a plan promises.
 pub ran : {Done : Outcome → Type 0} {Cut : List (Text × List ℕ) → List ℕ → Type 0} {endings : List Ending} {outputs : List Text} {o : Outcome} {Part : List (Text × List ℕ) → List ℕ → Type 0} {ending : Ending} {a b : State} → Fits endings outputs o Part → (ending ≡ o.ending → Done o)
     → ((made : List (Text × List ℕ)) (text : List ℕ) → Part made text → IsLeftBy Done Cut made text) → Ends o Part ending a b → Follows (finish Done Cut) endings outputs ending a b
 ran {Done} {Cut} {endings} {outputs} {o} {Part} {ending} {a} {b} fits called may e = record {
@@ -261,7 +261,7 @@ ran {Done} {Cut} {endings} {outputs} {o} {Part} {ending} {a} {b} fits called may
   sure = λ s held. record { reads = e.reads; writes = e.sure s };
 }
 
--- memory was wanting for a text, and nothing was said
+-- Memory was missing for a text, and nothing was printed.
 pub ends_silent : {meant : Ending} {text : List ℕ} {a : State} → IsDecided meant → Ends (said meant text) (IsPartOf (said meant text)) no_memory a a
 ends_silent {meant} {text} {a} decided = record {
   stays = stays_same a;
@@ -275,6 +275,6 @@ ends_silent {meant} {text} {a} decided = record {
   rest = λ told. refl;
 }
 
--- `?` hands on why a run ends
+-- `?` passes on why a run ends.
 pub handed_ends : {o : Outcome} {Part : List (Text × List ℕ) → List ℕ → Type 0} {why : RunFault} {a b : State} (ending : Ending) → IsErrAnd ending (λ x. x ≡ why) → Ends o Part (Err why) a b → Ends o Part ending a b
 handed_ends {o} {Part} {why} {a} {b} ending is ends = subst (λ (e : Ending). Ends o Part e a b) (sym (handed_on ending is)) ends

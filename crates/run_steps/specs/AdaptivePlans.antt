@@ -1,4 +1,4 @@
--- What becomes of the bytes of an adaptive plan.
+-- Which bytes are accepted as an adaptive plan, and which are refused with which text.
 use Rattle.std.specs.Prelude.{◌≡◌, ℕ}
 use Rattle.adaptive_tree.specs.declared.fault.PlanKind.{PlanKind}
 use Rattle.adaptive_tree.specs.declared.steps.Plan.{Plan as AdaptivePlan}
@@ -13,7 +13,7 @@ use Rattle.run_steps.specs.Texts.{plan_fault_text}
 abbrev pub IsAdaptivePlanFile : Text → AdaptivePlan → Type 0
 IsAdaptivePlanFile bytes plan = IsTextOf plan bytes
 
--- The bytes are refused with this text.
+-- The bytes are refused as an adaptive plan, and `console` is the text of the refusal.
 pub record IsRefusedPlan (bytes console : Text) : Type 0 where
   pub kind : PlanKind
   pub line : ℕ

@@ -1,4 +1,4 @@
--- What becomes of a dictionary's bytes.
+-- Which bytes are accepted as a dictionary, and which are refused with which text.
 use Rattle.std.specs.Prelude.{◌≡◌, ℕ, Some}
 use Rattle.dict_rows.specs.declared.dict.Dict.{Dict}
 use Rattle.dict_file.specs.declared.fault.DictFault.{DictFault}
@@ -13,7 +13,7 @@ use Rattle.run_steps.specs.Texts.{dictionary_rule, dictionary_text}
 abbrev pub IsDictionaryFile : Text → Dict → Type 0
 IsDictionaryFile bytes d = IsFileOf d bytes
 
--- The bytes are refused with this text.
+-- The bytes are refused as a dictionary, and `console` is the text of the refusal.
 pub record IsRefusedDictionary (bytes console : Text) : Type 0 where
   pub fault : DictFault
   pub refused : IsRefusedBy bytes fault

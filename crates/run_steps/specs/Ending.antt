@@ -7,7 +7,7 @@ use Rattle.run_steps.specs.declared.ending.FileKind.TheVariants as kind
 use Rattle.run_steps.specs.declared.ending.RunFault.{RunFault}
 use Rattle.run_steps.specs.declared.ending.RunFault.TheVariants.{NotUnderstood, Refused, ReadFailed, WriteFailed, NoMemory}
 
--- The work is done, or it isn't, for this reason.
+-- How a run ends: the work is done, or it isn't, for the given reason.
 abbrev pub Ending : Type 0
 Ending = Result (Unit {0}) RunFault
 
@@ -31,7 +31,7 @@ write_failed = Err WriteFailed
 abbrev pub no_memory : Ending
 no_memory = Err NoMemory
 
--- A file is refused.
+-- The ending is that a file is refused.
 abbrev pub IsRefusal : Ending → Type 0
 IsRefusal (Ok x) = ⊥
 IsRefusal (Err NotUnderstood) = ⊥
@@ -40,7 +40,7 @@ IsRefusal (Err ReadFailed) = ⊥
 IsRefusal (Err WriteFailed) = ⊥
 IsRefusal (Err NoMemory) = ⊥
 
--- The words and files decide the ending: no read or write failed, and memory was found.
+-- The words and files decide the ending: it isn't that a read or a write failed, or that memory was missing.
 abbrev pub IsDecided : Ending → Type 0
 IsDecided (Ok x) = ⊤
 IsDecided (Err NotUnderstood) = ⊤
@@ -51,19 +51,19 @@ IsDecided (Err NoMemory) = ⊥
 
 -- ---- the ending that a fault of the shelf gives
 
--- of a read
+-- Why a run ends after this fault of a read.
 abbrev pub read_fault : ShelfFault → RunFault
 read_fault shelf.Failed = ReadFailed
 read_fault shelf.NoMemory = NoMemory
 
--- of a write
+-- Why a run ends after this fault of a write.
 abbrev pub write_fault : ShelfFault → RunFault
 write_fault shelf.Failed = WriteFailed
 write_fault shelf.NoMemory = NoMemory
 
 -- ---- statuses
 
--- the status with which the program ends
+-- The status with which the program ends.
 abbrev pub status_of : Ending → ℕ
 status_of (Ok x) = 0
 status_of (Err NotUnderstood) = 2
@@ -76,6 +76,6 @@ status_of (Err WriteFailed) = 8
 status_of (Err NoMemory) = 9
 status_of (Err (Refused kind.AdaptivePlan)) = 10
 
--- The status tells the ending.
+-- Endings that have the same status are the same.
 abbrev pub OneEndingEach : Type 0
 OneEndingEach = (ending other : Ending) → status_of ending ≡ status_of other → ending ≡ other

@@ -7,7 +7,7 @@ use Rattle.text_fields.specs.Fields.{Text}
 use Rattle.run_steps.specs.declared.ending.FileKind.{FileKind}
 use Rattle.run_steps.specs.declared.ending.FileKind.TheVariants.{Netlist, Result, Dictionary, Log, AdaptivePlan}
 
--- how many bytes a file of a kind may have at most
+-- How many bytes a file of this kind may have at most.
 abbrev pub limit_of : FileKind → ℕ
 limit_of Netlist = 16777216
 limit_of Result = 1099511627776
@@ -15,6 +15,7 @@ limit_of Dictionary = 1099511627776
 limit_of Log = 1073741824
 limit_of AdaptivePlan = 1073741824
 
--- what is left of a file of a kind behind so many bytes and one more
+-- What is left of the file of this name after as many bytes as the limit of its kind and one more; none if there is no
+-- such file.
 abbrev pub left_of : FileKind → Files → Text → Option Text
 left_of kind files name = option_map (drop (limit_of kind + 1)) (get files name)

@@ -1,4 +1,4 @@
--- The steps of a plan: files that are read, and what is done at its end.
+-- The steps of plans: the files that are read, and what is done at the end.
 use Rattle.std.specs.Prelude.{◌≡◌, Bool, List, [], ◌∷◌, length}
 use Rattle.net_model.specs.declared.circuit.Design.{Design}
 use Rattle.net_model.specs.Circuit.{Circuit}
@@ -22,69 +22,71 @@ use Rattle.run_steps.specs.Ran.{broken_endings}
 
 -- ---- files that are read
 
--- a netlist
+-- Reads a netlist, and goes on with its design.
 abbrev pub with_netlist : Text → (Design → Plan) → Plan
 with_netlist bench next = judged bench kind.Netlist Design IsRefused IsDesign next
 
--- a result for a circuit
+-- Reads a result for the circuit, and goes on with its bytes.
 abbrev pub with_result : Text → Circuit → (Text → Plan) → Plan
 with_result result c next = judged result kind.Result Text (IsRefusedResult c) (IsResult c) next
 
--- a dictionary
+-- Reads a dictionary, and goes on with it.
 abbrev pub with_dictionary : Text → (Dict → Plan) → Plan
 with_dictionary dict next = judged dict kind.Dictionary Dict IsRefusedDictionary IsDictionaryFile next
 
--- a log for a dictionary
+-- Reads a log for the dictionary, and goes on with the observed answers.
 abbrev pub with_log : Text → Dict → (List (List Bool) → Plan) → Plan
 with_log log d next = judged log kind.Log (List (List Bool)) (IsRefusedLog d) (IsLogFor d) next
 
--- a partial log for a dictionary
+-- Reads a partial log for the dictionary, and goes on with its lines.
 abbrev pub with_partial : Text → Dict → (List Line → Plan) → Plan
 with_partial log d next = judged log kind.Log (List Line) (IsRefusedPartial d) (IsPartialFor d) next
 
--- a partial log for a result
+-- Reads a partial log for the result, and goes on with its lines.
 abbrev pub with_log_at : Text → Circuit → Text → (List Line → Plan) → Plan
 with_log_at log c result next = judged log kind.Log (List Line) (IsRefusedAt c result) (IsLogAt c result) next
 
--- an adaptive plan
+-- Reads an adaptive plan, and goes on with it.
 abbrev pub with_adaptive_plan : Text → (AdaptivePlan → Plan) → Plan
 with_adaptive_plan plan next = judged plan kind.AdaptivePlan AdaptivePlan IsRefusedPlan IsAdaptivePlanFile next
 
--- a log of answers to an adaptive plan
+-- Reads a log of answers to the adaptive plan, and goes on with the outcome to which they lead.
 abbrev pub with_walk : Text → AdaptivePlan → (WalkOutcome → Plan) → Plan
 with_walk log plan next = judged log kind.Log WalkOutcome (IsRefusedWalk plan) (IsLogTo plan) next
 
--- a list of vectors for a circuit
+-- Reads a list of vectors for the circuit, and goes on with them. The text of a refusal begins with `log:`.
 abbrev pub with_vectors : Text → Circuit → (List (List Bool) → Plan) → Plan
 with_vectors vectors c next = judged vectors kind.Log (List (List Bool)) (IsRefusedList c) (IsListFor c) next
 
--- the same, in a command that may read a log too
+-- Reads a list of vectors for the circuit, in a command that may read a log too, and goes on with them. The text of a
+-- refusal begins with `vectors:`.
 abbrev pub with_list : Text → Circuit → (List (List Bool) → Plan) → Plan
 with_list vectors c next = judged vectors kind.Log (List (List Bool)) (IsRefusedVectors c) (IsListFor c) next
 
--- a partial log of such a list
+-- Reads a partial log whose lines have the numbers of these vectors, and goes on with its lines.
 abbrev pub with_log_of : Text → Circuit → List (List Bool) → (List Line → Plan) → Plan
 with_log_of log c vectors next = judged log kind.Log (List Line) (IsRefusedPartialOf (length vectors) (length c.positions)) (IsPartialLog (length vectors) (length c.positions)) next
 
 -- ---- what is done with them
 
--- all is made before anything is written
+-- All is made before anything is written: no output is cut short while it is made.
 abbrev pub never_cut : List (Text × Text) → Text → Type 0
 never_cut made text = ⊥
 
--- a text is printed
+-- Prints a text for which `IsText` holds.
 abbrev pub says : (Text → Type 0) → Plan
 says IsText = finish (λ o. (text : Text) × IsText text × (o ≡ said done text)) never_cut
 
--- a file is made under a name, and a text is printed
+-- Makes a file under this name and prints a text, for which `AreMade` holds.
 abbrev pub makes_file : Text → (Text → Text → Type 0) → Plan
 makes_file name AreMade = finish (λ o. (file : Text) × (text : Text) × AreMade file text × (o ≡ saved ((name, file) ∷ []) text)) never_cut
 
 -- ---- words
 
--- the words ask for nothing
+-- The plan for words that ask for nothing: it says that they aren't understood.
 abbrev pub words_plan : Plan
 words_plan = finish (λ o. o ≡ said not_understood not_understood_text) never_cut
 
+-- The endings of a run whose words ask for nothing.
 abbrev pub words_endings : List Ending
 words_endings = not_understood ∷ broken_endings

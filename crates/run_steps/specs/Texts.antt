@@ -1,4 +1,4 @@
--- The lines of the console.
+-- The lines of the console that say why words or a file are refused.
 use Rattle.std.specs.Prelude.{ℕ, List, ◌∷◌, ◌++◌, codes, decimal, flat_map, Option, Some, None}
 use Rattle.bench_reader.specs.declared.fault.Place.{Place}
 use Rattle.bench_reader.specs.declared.fault.NetKind.{NetKind}
@@ -26,17 +26,18 @@ kind_name DrivenTwice = codes "DrivenTwice"
 kind_name Undriven = codes "Undriven"
 kind_name TooLong = codes "TooLong"
 
--- why a netlist's text is refused
+-- The line that says why a netlist's text is refused.
 unfoldable pub refusal_text : NetKind → Place → Text
 refusal_text kind place = codes "netlist: " ++ (kind_name kind ++ (codes " at byte " ++ (decimal place.byte ++ (codes ", line " ++ (decimal place.line ++ codes "\n")))))
 
+-- The beginning of the line that refuses a loop of gates: where the walk along it begins.
 unfoldable pub loop_start : Place → Text
 loop_start place = codes "netlist: Loop at byte " ++ (decimal place.byte ++ (codes ", line " ++ (decimal place.line ++ codes ":")))
 
 abbrev pub after_blank : Text → Text
 after_blank name = 32 ∷ name
 
--- a loop of gates: where its walk begins, and the names along it
+-- The line that refuses a loop of gates: where the walk along it begins, and the names along it.
 unfoldable pub loop_text : Place → List Text → Text
 loop_text place names = loop_start place ++ flat_map after_blank names ++ codes "\n"
 
@@ -52,11 +53,11 @@ evidence_rule why.LeafOpen = codes "LeafOpen"
 evidence_rule why.BadTree = codes "BadTree"
 evidence_rule why.WrongCount = codes "WrongCount"
 
--- the rule that evidence breaks, and where
+-- The rule that evidence breaks, and at which step.
 unfoldable pub evidence_text : Refusal → Text
 evidence_text refusal = codes "Evidence " ++ (evidence_rule refusal.kind ++ (codes " at step " ++ (decimal refusal.step ++ codes ", ")))
 
--- the rule that is broken
+-- The rule that a result breaks.
 abbrev pub result_rule : ResultKind → Text
 result_rule result.Syntax = codes "Syntax at "
 result_rule result.Head = codes "Head at "
@@ -68,18 +69,19 @@ result_rule (result.Evidence refusal) = evidence_text refusal
 result_rule result.Table = codes "Table at "
 result_rule result.TooLong = codes "TooLong at "
 
--- why a result is refused
+-- The line that says why a result is refused.
 unfoldable pub result_text : ResultFault → Text
 result_text fault = codes "result: " ++ (result_rule fault.kind ++ (codes "line " ++ (decimal fault.line ++ codes "\n")))
 
 -- ---- words
 
+-- The line that says that the words aren't understood.
 unfoldable pub not_understood_text : Text
 not_understood_text = codes "words: not understood\n"
 
 -- ---- dictionaries
 
--- the rule that a dictionary breaks, and at which byte; want of memory is none
+-- The rule that a dictionary breaks, and at which byte; none if memory was missing.
 abbrev pub dictionary_rule : DictFault → Option (Text × ℕ)
 dictionary_rule dict.Magic = Some (codes "Magic", 0)
 dictionary_rule dict.Version = Some (codes "Version", 4)
@@ -90,7 +92,7 @@ dictionary_rule (dict.Trailing byte) = Some (codes "Trailing", byte)
 dictionary_rule (dict.TooLong byte) = Some (codes "TooLong", byte)
 dictionary_rule dict.NoMemory = None
 
--- why a dictionary is refused
+-- The line that says why a dictionary is refused.
 unfoldable pub dictionary_text : Text → ℕ → Text
 dictionary_text rule byte = codes "dictionary: " ++ (rule ++ (codes " at byte " ++ (decimal byte ++ codes "\n")))
 
@@ -103,11 +105,11 @@ log_rule log.Width = codes "Width"
 log_rule log.Missing = codes "Missing"
 log_rule log.TooLong = codes "TooLong"
 
--- why a log or a list of vectors is refused
+-- The line that says why a log or a list of vectors is refused.
 unfoldable pub log_text : LogKind → ℕ → Text
 log_text kind line = codes "log: " ++ (log_rule kind ++ (codes " at line " ++ (decimal line ++ codes "\n")))
 
--- why a list of vectors is refused, in a command that may read a log too
+-- The line that says why a list of vectors is refused, in a command that may read a log too.
 unfoldable pub vectors_text : LogKind → ℕ → Text
 vectors_text kind line = codes "vectors: " ++ (log_rule kind ++ (codes " at line " ++ (decimal line ++ codes "\n")))
 
@@ -119,6 +121,6 @@ plan_rule plan.Order = codes "Order"
 plan_rule plan.Value = codes "Value"
 plan_rule plan.TooLong = codes "TooLong"
 
--- why a plan is refused
+-- The line that says why an adaptive plan is refused.
 unfoldable pub plan_fault_text : PlanKind → ℕ → Text
 plan_fault_text kind line = codes "plan: " ++ (plan_rule kind ++ (codes " at line " ++ (decimal line ++ codes "\n")))

@@ -1,4 +1,4 @@
-//! From the name of an adaptive plan to the plan, or to the end of the run.
+//! Reads and judges an adaptive plan.
 
 ghost use Rattle.std.specs.Prelude.{IfErr, IfOk};
 ghost use Rattle.adaptive_tree.specs.WellFormed.{IsWellFormed};
@@ -13,7 +13,8 @@ use adaptive_tree::{Plan, PlanFault, read_plan};
 use diag_shelf::Shelf;
 use std::alloc::{AllocError, Global};
 
-/// Reads and judges the plan under a name. Where it isn't accepted, the console says why, and the run is over.
+/// Reads and judges the adaptive plan `name`. Returns errors as `read_design` does, with `Refused(AdaptivePlan)` for a
+/// plan that is refused.
 pub fn read_adaptive_plan<S: Shelf>(
     alloc: Global,
     shelf: &mut S,

@@ -1,4 +1,4 @@
-//! From a dictionary's name to the dictionary, or to the end of the run.
+//! Reads and judges a dictionary.
 
 ghost use Rattle.std.specs.Prelude.{◌≡◌, IfErr, IfOk, option_map};
 ghost use Rattle.dict_file.specs.Spelling.{HasDictSpelling};
@@ -15,7 +15,8 @@ use dict_file::{DictFault, decode};
 use std::alloc::{AllocError, Global};
 use table_dicts::Dict;
 
-/// Reads and judges the dictionary under a name. Where it isn't accepted, the console says why, and the run is over.
+/// Reads and judges the dictionary `name`. Returns errors as `read_design` does, with `Refused(Dictionary)` for a
+/// dictionary that is refused.
 pub fn read_dictionary<S: Shelf>(alloc: Global, shelf: &mut S, name: &str) -> Result<Dict, RunFault>
     ensures spelled { IfOk result HasDictSpelling }
     ensures ok { IfOk result (λ dict. WasAccepted name.now kind.Dictionary IsDictionaryFile dict (S.state shelf.old) (S.state shelf.new)) }
@@ -37,7 +38,7 @@ impl BytesFault for DictFault {
     }
 }
 
-// The rule that a dictionary breaks, and at which byte.
+// Returns the rule that the dictionary breaks, and at which byte; none if memory is missing.
 fn rule_of(fault: &DictFault) -> Option<(&'static str, u64)>
     ensures { option_map (λ rule. (rule.0.now, rule.1)) result ≡ dictionary_rule fault.now }
 {

@@ -10,7 +10,7 @@ use dict_file::DICTIONARY_LIMIT;
 use result_records::RESULT_LIMIT;
 use std::alloc::AllocError;
 
-/// A kind of file that is read, and refused where a rule is broken.
+/// A kind of file that the program reads, and refuses if the file breaks a rule.
 #[derive(Clone, Copy, Debug, PartialEq, Eq, Hash)]
 pub enum FileKind {
     Netlist,
@@ -21,7 +21,7 @@ pub enum FileKind {
     AdaptivePlan,
 }
 
-/// How many bytes a file of a kind may have at most.
+/// Returns how many bytes a file of this `kind` may have at most.
 pub(crate) fn limit_of(kind: FileKind) -> u64
     ensures { result ≡ limit_of kind }
 {
@@ -33,10 +33,10 @@ pub(crate) fn limit_of(kind: FileKind) -> u64
     }
 }
 
-/// Why a run did not do what it was asked.
+/// Why a run did not do its work.
 #[derive(Clone, Copy, Debug, PartialEq, Eq, Hash)]
 pub enum RunFault {
-    /// The words ask for nothing.
+    /// The words of the command line ask for nothing.
     NotUnderstood,
     /// A file of this kind is refused.
     Refused(FileKind),
@@ -55,7 +55,7 @@ impl From<AllocError> for RunFault {
     }
 }
 
-/// The status of an ending. A status stands in no other place of the code.
+/// Returns the status with which the program exits after this ending. No other code writes a status as a number.
 pub fn status_of(ending: Result<(), RunFault>) -> u8
     ensures { result ≡ status_of ending }
 {
@@ -73,7 +73,7 @@ pub fn status_of(ending: Result<(), RunFault>) -> u8
     }
 }
 
-/// Endings of the same status are the same.
+/// Endings that have the same status are the same.
 pub fn one_ending_each()
     ensures { OneEndingEach }
 {}

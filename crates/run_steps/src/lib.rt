@@ -1,4 +1,7 @@
-//! What the commands of the program share: files are read and judged, a text is printed or a file made, and the ending follows.
+//! What the commands of the program share: reading and judging files, printing texts, making files, and the endings of
+//! runs.
+//!
+//! What comments say of files and of the console holds on a shelf that tells them.
 #![tactic(auto)]
 
 mod adaptive_plans;

@@ -1,4 +1,4 @@
-//! From the name of a log for a result, or for vectors that were applied, to what it has, or to the end of the run.
+//! Reads and judges a partial log for a result, or for vectors that were applied.
 
 ghost use Rattle.std.specs.Prelude.{◌<◌, ◌^◌, List, IfErr, IfOk, length};
 ghost use Rattle.net_model.specs.PatternRows.{IsTableOf};
@@ -20,8 +20,9 @@ use ranked_diag::Partial;
 use result_file::Checked;
 use std::alloc::Global;
 
-/// Reads and judges the log under a name, for a result that was checked. Where it isn't accepted, the console says why, and the run is
-/// over.
+/// Reads and judges the partial log `name`, for the patterns of `checked` and the positions of `subject`. It is
+/// accepted or refused for the bytes that the accepted records of the result spell. Returns errors as `read_design`
+/// does, with `Refused(Log)` for a log that is refused.
 pub fn read_log_at<S: Shelf>(
     alloc: Global,
     shelf: &mut S,
@@ -39,8 +40,8 @@ pub fn read_log_at<S: Shelf>(
     read_partial_log(alloc, shelf, patterns, positions, name)
 }
 
-/// Reads and judges the log under a name, whose lines have the numbers of these vectors. If it isn't accepted, the console says why, and the
-/// run is over.
+/// Reads and judges the partial log `name`, whose lines have the numbers of `vectors`. There must be fewer than 2^32 of
+/// these. Returns errors as `read_design` does, with `Refused(Log)` for a log that is refused.
 pub fn read_log_of<S: Shelf>(
     alloc: Global,
     shelf: &mut S,

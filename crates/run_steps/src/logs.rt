@@ -1,4 +1,4 @@
-//! From the name of a log, whole, partial or of a walk, or a list of vectors to what it has, or to the end of the run.
+//! Reads and judges logs, whole, partial or of answers to a plan, and lists of vectors.
 
 ghost use Rattle.std.specs.Prelude.{◌<◌, ◌^◌, length, IfErr, IfOk};
 ghost use Rattle.dict_rows.specs.Rows.{AreRows};
@@ -22,7 +22,8 @@ use ranked_diag::{Partial, read_partial_of};
 use std::alloc::{AllocError, Global};
 use table_dicts::Dict;
 
-/// Reads and judges the log under a name. Where it isn't accepted, the console says why, and the run is over.
+/// Reads and judges the log `name` for `dict`, and returns the observed answers, one for each pattern. Returns errors
+/// as `read_design` does, with `Refused(Log)` for a log that is refused.
 pub fn read_observed<S: Shelf>(
     alloc: Global,
     shelf: &mut S,
@@ -38,8 +39,8 @@ pub fn read_observed<S: Shelf>(
     })
 }
 
-/// Reads and judges the partial log under a name, of so many patterns and positions. Where it isn't accepted, the console says
-/// why, and the run is over.
+/// Reads and judges the partial log `name` of `patterns` patterns and `positions` positions. Returns errors as
+/// `read_design` does, with `Refused(Log)` for a log that is refused.
 pub fn read_partial_log<S: Shelf>(
     alloc: Global,
     shelf: &mut S,
@@ -56,7 +57,8 @@ pub fn read_partial_log<S: Shelf>(
     })
 }
 
-/// Reads and judges the log under a name, of answers to a plan. Where it isn't accepted, the console says why, and the run is over.
+/// Reads and judges the log `name` of answers to `plan`, and returns where they lead. Returns errors as `read_design`
+/// does, with `Refused(Log)` for a log that is refused.
 pub fn read_walk<S: Shelf>(
     alloc: Global,
     shelf: &mut S,
@@ -72,8 +74,8 @@ pub fn read_walk<S: Shelf>(
     })
 }
 
-/// Reads and judges the list of vectors under a name. Where it isn't accepted, the console says why, and the run is
-/// over.
+/// Reads and judges the list of vectors `name` for `circuit`. Returns errors as `read_design` does, with `Refused(Log)`
+/// for a list that is refused, and a text that begins with `log:`.
 pub fn read_list<S: Shelf>(
     alloc: Global,
     shelf: &mut S,
@@ -90,14 +92,15 @@ pub fn read_list<S: Shelf>(
     })
 }
 
-/// A fault of a list of vectors, of which the console says that it is the list's.
+/// A fault of a list of vectors, whose text begins with `vectors:`.
 #[derive(Debug, Drop)]
 pub(crate) struct ListFault {
     pub(crate) fault: LogFault,
 }
 
-/// Reads and judges the list of vectors under a name, in a command that may read a log too. If it isn't accepted, the console says why, and
-/// the run is over.
+/// Reads and judges the list of vectors `name` for `circuit`, in a command that may read a log too. Returns fewer than
+/// 2^32 vectors. Returns errors as `read_design` does, with `Refused(Log)` for a list that is refused, and a text that
+/// begins with `vectors:`.
 pub fn read_vector_list<S: Shelf>(
     alloc: Global,
     shelf: &mut S,
@@ -119,7 +122,7 @@ pub fn read_vector_list<S: Shelf>(
     )
 }
 
-// The list of vectors of some bytes.
+// Returns the list of vectors that `bytes` spell.
 fn judge_list(alloc: Global, sources: u32, bytes: &[u8]) -> Result<Vectors, ListFault>
     ensures ok { IfOk result (λ vectors. IsVectorList sources bytes.now vectors) }
     ensures refused { IfErr result (λ fault. TellsLogFault (VectorsRefused sources bytes.now) fault.fault) }

@@ -1,4 +1,4 @@
-//! From a netlist's name to its circuit, or to the end of the run.
+//! Reads and judges a netlist.
 
 ghost use Rattle.std.specs.Prelude.{◌≡◌, ◌++◌, ℕ, List, IfOk, IfErr, OnOk, Some, flat_map, length};
 ghost use Rattle.net_model.specs.Circuit.{line_count};
@@ -16,7 +16,13 @@ use net_model::{Design, Names};
 use scan_cut::cut;
 use std::alloc::{AllocError, Global};
 
-/// Reads and judges the netlist under a name. Where it isn't accepted, the console says why, and the run is over.
+/// Reads and judges the netlist `bench`, and returns its cut. Returns `Refused(Netlist)` only if the file was read and
+/// refused; then the console gained the text of the refusal, and the file was read to its end, or to one byte past the
+/// limit of its kind. Returns `ReadFailed` only if the count of read faults rose, on a sure shelf only if no file has
+/// the name; then nothing was printed. Returns `WriteFailed` only if the file was refused, its text couldn't be
+/// printed, and the count of write faults rose; then a beginning of the text was printed. Returns `NoMemory` if memory
+/// is missing; then nothing was done but to read, or the file was refused and a beginning of its text printed. After an
+/// error no file was created or changed. What is said of files and of the console holds on a shelf that tells them.
 pub fn read_design<S: Shelf>(alloc: Global, shelf: &mut S, bench: &str) -> Result<Design, RunFault>
     ensures named { IfOk result (λ design. length design.names ≡ line_count design.circuit) }
     ensures ok { IfOk result (λ design. WasAccepted bench.now kind.Netlist IsDesign design (S.state shelf.old) (S.state shelf.new)) }
@@ -31,7 +37,8 @@ pub fn read_design<S: Shelf>(alloc: Global, shelf: &mut S, bench: &str) -> Resul
     )
 }
 
-/// The cut of a netlist's text.
+/// Returns the cut of the netlist that `bytes` spell. Returns a fault that has a text only if `bytes` are refused with
+/// that text, and `NoMemory` if memory is missing.
 pub fn judge_netlist(alloc: Global, bytes: &[u8]) -> Result<Design, NetFault>
     ensures named { IfOk result (λ design. length design.names ≡ line_count design.circuit) }
     ensures ok { IfOk result (IsDesign bytes.now) }
@@ -53,7 +60,7 @@ impl BytesFault for NetFault {
     }
 }
 
-// What the console says of a loop.
+// Returns what the console says of a loop.
 #[tactic(auto, unfolding(crate::specs::Texts::loop_text))]
 fn loop_text(alloc: Global, place: Place, names: &Names) -> Result<Vec<u8>, AllocError>
     ensures { IfOk result (λ text. text.items ≡ loop_text place names.now) }
@@ -64,7 +71,7 @@ fn loop_text(alloc: Global, place: Place, names: &Names) -> Result<Vec<u8>, Allo
     Ok(text)
 }
 
-// A blank and each name in turn.
+// Appends a blank and the name, for each name in turn.
 fn push_names(text: &mut Vec<u8>, names: &Names) -> Result<(), AllocError>
     ensures { OnOk result (text.new.items ≡ text.old.items ++ flat_map after_blank names.now) }
 {

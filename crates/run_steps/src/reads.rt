@@ -1,4 +1,5 @@
-//! From a file's name to what its bytes are accepted as, or to the end of the run.
+//! Reads a file up to the limit of its kind, and judges it by a call that `read_judged` is given. `BytesFault` is what
+//! the console says of a fault.
 
 ghost use Rattle.std.specs.Prelude.{◌≡◌, ℕ, List, Option, Some, IfErr, IfOk};
 ghost use Rattle.run_steps.specs.Limits.{limit_of};
@@ -9,17 +10,18 @@ use crate::ends::{read_file, refuse};
 use diag_shelf::Shelf;
 use std::alloc::{AllocError, Global};
 
-/// Why bytes aren't accepted: they are refused, or there is no memory.
+/// Why bytes aren't accepted: they are refused, or memory is missing.
 pub(crate) trait BytesFault {
-    /// What the console says of it, if it is a refusal.
+    /// What the console says of the fault, if it is a refusal.
     ghost said: { Self → Option (List ℕ) };
 
-    /// The text for the console. There is no memory for it where there was none to judge.
+    /// Returns the text for the console. Returns `AllocError` if memory is missing, or if the fault isn't a refusal.
     fn text(self, alloc: Global) -> Result<Vec<u8>, AllocError>
         ensures { IfOk result (λ text. said self ≡ Some text.items) };
 }
 
-/// Reads the file of a kind under a name, and judges it. If it isn't accepted, the console says why, and the run is over.
+/// Reads the file `name` up to one byte past the limit of its `kind`, and judges it by `judge`. If `judge` refuses the
+/// file, the console says why, and the run is over; it is over too if the file can't be read.
 pub(crate) fn read_judged<S: Shelf, T, E: BytesFault, F: FnOnce(&[u8]) -> Result<T, E>>(
     alloc: Global,
     shelf: &mut S,
@@ -39,7 +41,8 @@ pub(crate) fn read_judged<S: Shelf, T, E: BytesFault, F: FnOnce(&[u8]) -> Result
     }
 }
 
-/// Says why a file of some kind is refused.
+/// Prints the text of `fault`, for which a file of this `kind` is refused. Returns why the run is over: the refusal, or
+/// why it couldn't be printed.
 pub(crate) fn say_fault<S: Shelf, E: BytesFault>(
     alloc: Global,
     shelf: &mut S,

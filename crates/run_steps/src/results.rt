@@ -1,4 +1,4 @@
-//! From a result's name to what it states, and to its bytes, or to the end of the run; and the setting that it states.
+//! Reads and judges a result, with or without keeping its bytes, and gives the setting that it states.
 
 ghost use Rattle.std.specs.Prelude.{◌≡◌, List, All, IfErr, IfOk, Some, length};
 ghost use Rattle.net_model.specs.PatternRows.{IsTableOf};
@@ -22,7 +22,8 @@ use result_file::{Checked, ResultFault};
 use std::alloc::{AllocError, Global};
 use table_dicts::Setting;
 
-/// Reads and judges the result under a name. Where it isn't valid, the console says why, and the run is over.
+/// Reads and judges the result `name` for the circuit of `subject`, and returns what it states. Returns errors as
+/// `read_design` does, with `Refused(Result)` for a result that is refused.
 pub fn read_result<S: Shelf>(
     alloc: Global,
     shelf: &mut S,
@@ -48,7 +49,8 @@ pub struct WholeResult {
     pub checked: Checked,
 }
 
-/// Reads all of the result under a name, and judges it. Where it isn't valid, the console says why, and the run is over.
+/// Reads and judges the result `name` for the circuit of `subject`, and returns all of its bytes and what they state.
+/// Returns errors as `read_design` does, with `Refused(Result)` for a result that is refused.
 pub fn read_whole_result<S: Shelf>(
     alloc: Global,
     shelf: &mut S,
@@ -76,7 +78,8 @@ impl BytesFault for ResultFault {
     }
 }
 
-/// The setting of a result that was checked: the subject's circuit, and the result's patterns with their classes.
+/// Returns the setting of a result that was checked: the circuit of `subject`, and the patterns of `checked` with their
+/// classes.
 pub fn setting_of<'a>(subject: &'a Subject<'a>, checked: &'a Checked) -> Setting<'a>
     requires widths { All (λ v. length v ≡ subject.now.sources) checked.now.patterns }
     requires table { IsTableOf subject.now checked.now.patterns checked.now.classes }
@@ -85,7 +88,7 @@ pub fn setting_of<'a>(subject: &'a Subject<'a>, checked: &'a Checked) -> Setting
     ensures patterns { result.patterns.now ≡ checked.now.patterns }
     ensures classes { result.classes.now ≡ checked.now.classes }
 {
-    // That there are few patterns is known by this.
+    // The proof learns from this call that there are few patterns.
     let _patterns = checked.classes.patterns();
     Setting {
         subject,

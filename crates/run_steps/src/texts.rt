@@ -1,4 +1,4 @@
-//! The lines of the console.
+//! The lines of the console that say why a file is refused.
 
 ghost use Rattle.std.specs.Prelude.{◌≡◌, IfOk, string_bytes};
 ghost use Rattle.run_steps.specs.Texts.{kind_name, refusal_text, loop_start, evidence_rule, evidence_text, result_rule, result_text, dictionary_text, log_rule, log_text, vectors_text, plan_rule, plan_fault_text};
@@ -24,7 +24,7 @@ fn kind_name(kind: NetKind) -> &'static str
     }
 }
 
-/// Why a netlist's text is refused.
+/// Returns the line that says why a netlist's text is refused.
 #[tactic(auto, unfolding(crate::specs::Texts::refusal_text))]
 pub(crate) fn refusal_text(alloc: Global, kind: NetKind, place: Place) -> Result<String, AllocError>
     ensures { IfOk result (λ text. string_bytes text ≡ refusal_text kind place) }
@@ -34,7 +34,8 @@ pub(crate) fn refusal_text(alloc: Global, kind: NetKind, place: Place) -> Result
     format!(in alloc; "netlist: {name} at byte {byte}, line {line}\n")
 }
 
-/// Where the walk along a loop begins; the names along it follow.
+/// Returns the beginning of the line that refuses a loop: where the walk along it begins. The names along the loop
+/// follow.
 #[tactic(auto, unfolding(crate::specs::Texts::loop_start))]
 pub(crate) fn loop_start(alloc: Global, place: Place) -> Result<String, AllocError>
     ensures { IfOk result (λ text. string_bytes text ≡ loop_start place) }
@@ -43,7 +44,7 @@ pub(crate) fn loop_start(alloc: Global, place: Place) -> Result<String, AllocErr
     format!(in alloc; "netlist: Loop at byte {byte}, line {line}:")
 }
 
-/// Why a result is refused.
+/// Returns the line that says why a result is refused.
 #[tactic(auto, unfolding(crate::specs::Texts::result_text))]
 pub(crate) fn result_text(alloc: Global, fault: ResultFault) -> Result<String, AllocError>
     ensures { IfOk result (λ text. string_bytes text ≡ result_text fault) }
@@ -53,7 +54,6 @@ pub(crate) fn result_text(alloc: Global, fault: ResultFault) -> Result<String, A
     format!(in alloc; "result: {rule}line {line}\n")
 }
 
-// The rule that a line breaks.
 fn rule_text(alloc: Global, kind: ResultKind) -> Result<String, AllocError>
     ensures { IfOk result (λ text. string_bytes text ≡ result_rule kind) }
 {
@@ -70,7 +70,7 @@ fn rule_text(alloc: Global, kind: ResultKind) -> Result<String, AllocError>
     }
 }
 
-// The rule that evidence breaks, and at which token or chain.
+// Returns the rule that evidence breaks, and at which token or chain.
 #[tactic(auto, unfolding(crate::specs::Texts::evidence_text))]
 fn evidence_text(alloc: Global, refusal: Refusal) -> Result<String, AllocError>
     ensures { IfOk result (λ text. string_bytes text ≡ evidence_text refusal) }
@@ -95,7 +95,7 @@ fn evidence_rule(refusal: Refusal) -> &'static str
     }
 }
 
-/// Why a dictionary is refused: the rule that it breaks, and at which byte.
+/// Returns the line that says why a dictionary is refused: the rule that it breaks, and at which byte.
 #[tactic(auto, unfolding(crate::specs::Texts::dictionary_text))]
 pub(crate) fn dictionary_text(alloc: Global, rule: &str, byte: u64) -> Result<String, AllocError>
     ensures { IfOk result (λ text. string_bytes text ≡ dictionary_text rule.now byte) }
@@ -103,7 +103,7 @@ pub(crate) fn dictionary_text(alloc: Global, rule: &str, byte: u64) -> Result<St
     format!(in alloc; "dictionary: {rule} at byte {byte}\n")
 }
 
-/// Why a log or a list of vectors is refused.
+/// Returns the line that says why a log or a list of vectors is refused.
 #[tactic(auto, unfolding(crate::specs::Texts::log_text))]
 pub(crate) fn log_text(alloc: Global, kind: LogKind, line: u64) -> Result<String, AllocError>
     ensures { IfOk result (λ text. string_bytes text ≡ log_text kind line) }
@@ -112,7 +112,7 @@ pub(crate) fn log_text(alloc: Global, kind: LogKind, line: u64) -> Result<String
     format!(in alloc; "log: {rule} at line {line}\n")
 }
 
-/// Why a list of vectors is refused, in a command that may read a log too.
+/// Returns the line that says why a list of vectors is refused, in a command that may read a log too.
 #[tactic(auto, unfolding(crate::specs::Texts::vectors_text))]
 pub(crate) fn vectors_text(alloc: Global, kind: LogKind, line: u64) -> Result<String, AllocError>
     ensures { IfOk result (λ text. string_bytes text ≡ vectors_text kind line) }
@@ -132,7 +132,7 @@ fn log_rule(kind: &LogKind) -> &'static str
     }
 }
 
-/// Why a plan is refused.
+/// Returns the line that says why an adaptive plan is refused.
 #[tactic(auto, unfolding(crate::specs::Texts::plan_fault_text))]
 pub(crate) fn plan_fault_text(
     alloc: Global,

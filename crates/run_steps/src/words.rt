@@ -1,4 +1,4 @@
-//! Words that ask for nothing.
+//! The end of a run whose words ask for nothing.
 
 ghost use Rattle.std.specs.Prelude.{Err, []};
 ghost use Rattle.run_steps.specs.Plans.{words_plan, words_endings};
@@ -8,7 +8,10 @@ use crate::ending::RunFault;
 use crate::ends::refuse;
 use diag_shelf::Shelf;
 
-/// Says that the words aren't understood. Answers that, or why it couldn't be printed.
+/// Prints `words: not understood` and an LF, and returns `NotUnderstood`. If the text can't be printed it returns
+/// `WriteFailed`, only if the count of write faults rose, or `NoMemory` if memory is missing; then a beginning of the
+/// text was printed. No file is created or changed. What is said of files and of the console holds on a shelf that
+/// tells them.
 #[tactic(auto, unfolding(crate::specs::Texts::not_understood_text))]
 pub fn refuse_words<S: Shelf>(shelf: &mut S) -> RunFault
     ensures { Follows words_plan words_endings [] (Err result) (S.state shelf.old) (S.state shelf.new) }

@@ -1,4 +1,4 @@
--- Classes that are alike at each pattern but one, and gains by the same pairs.
+-- Classes that are alike at each pattern except one, and gains by the same pairs.
 use Rattle.std.proofs.Common.{◌≡◌, ◌≢◌, ◌∙◌, ℕ, ◌+◌, ◌<◌, Bool, true, false, not, eqb, ◌&&◌, ◌||◌, List, length, get_or, set, refl, sym, ap, subst, arith, inl, inr, Decides}
 use Rattle.std.specs.Bool.{beq}
 use Rattle.std.specs.List.{range_with_len}
@@ -20,10 +20,10 @@ use Rattle.samediff_dict.proofs.ToldLemmas.{beq_same}
 use Rattle.samediff_dict.proofs.ListedLemmas.{placed}
 use Rattle.samediff_dict.proofs.MovedLemmas.{gain_same}
 
--- ---- alike at each pattern but one
+-- ---- alike at each pattern except one
 
 module _ (patterns : List Candidates) where
-  -- Two classes are alike at each pattern but one.
+  -- Two classes are alike at each pattern except one.
   abbrev pub AreAlikeBut : List ℕ → ℕ → ℕ → ℕ → Type 0
   AreAlikeBut chosen pattern low high = (other : ℕ) → other < length chosen → other ≢ pattern → alike_at patterns chosen other low high ≡ true
 
@@ -59,7 +59,7 @@ module _ (patterns : List Candidates) where
       (λ so. old.1 (λ q h ne. sym (same q h ne) ∙ new.0 so q (omega (arith, h, long)) ne))
       (λ so. new.1 (λ q h ne. let inside : q < length chosen = omega (arith, h, long) in same q inside ne ∙ old.0 so q inside ne))
 
-  -- a replaced number leaves the other patterns
+  -- a replaced number changes nothing at the other patterns
   pub alike_other : (chosen : List ℕ) (out new pattern low high : ℕ) → pattern ≢ out → alike_at patterns (set chosen out new) pattern low high ≡ alike_at patterns chosen pattern low high
   alike_other chosen out new pattern low high ne = ap (λ number. same_side (candidates_in patterns pattern).numbers number low high) (get_or-set_other chosen out pattern new 0 ne)
 
@@ -106,7 +106,7 @@ gain_nothing answers answer =
     let test = tells_apart (λ (_ _ : ℕ). false) answers answer in
     pairs_are (length answers) test ∙ sum_to-zero (λ high. sum_to (λ low. one_if (test low high)) high) (length answers) (λ high h. sum_to-zero (λ low. one_if (test low high)) high (λ low l. refl))
 
--- no two classes are together where none is listed
+-- no two classes are together if none is listed
 pub none_together : {n : ℕ} {p : Partition} → IsListed n p → length p.classes.items ≡ 0 → (low high : ℕ) → low ≢ high → are_together p low high ≡ false
 none_together {n} {p} listed empty low high ne =
     false_from_ne_true (are_together p low high) (λ so. let at = placed listed low high ne (eqb-true (group_in p low) (group_in p high) so) in omega (arith, at.low_within, empty))

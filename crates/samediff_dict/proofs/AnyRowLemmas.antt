@@ -96,7 +96,7 @@ module _ (t : ClassTable) (rows : List (List (List Bool))) where
       let there : Contains (enumerate_from 0 rows) place = (pattern, omega (arith, h, length-enumerate_from 0 rows), at ∙ (λ i. (same i, own i))) in
       Contains-flat_map replaced (enumerate_from 0 rows) place (set baselines pattern answer) there (Contains-map (λ a. set baselines pattern a) (candidates t row) answer is)
 
-  -- where none is better, no candidate is
+  -- if no replacement is better, no candidate is
   candidate_not_better : (baselines : List (List Bool)) (pattern : ℕ) (answer : List Bool) → improvement t rows baselines ≡ None → pattern < length rows
       → Contains (candidates t (get_or rows pattern [])) answer → pairs_apart t rows (set baselines pattern answer) ≤ pairs_apart t rows baselines
   unfolding improvement

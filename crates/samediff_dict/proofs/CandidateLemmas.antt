@@ -16,7 +16,6 @@ use Rattle.samediff_dict.specs.Numbered.{class_answers, AreNumbersOf, AreCandida
 use Rattle.answer_numbers.proofs.DistinctLemmas.{from_distinct, distinct-few}
 use Rattle.samediff_dict.proofs.DistinctLemmas.{entries_distinct, group_below}
 
--- no candidates
 abbrev pub none : Candidates
 none = record { numbers = []; count = 0 }
 
@@ -32,7 +31,7 @@ numbers_of_groups answers groups entries c are numbers count =
       own = λ place h. ap (λ (es : List (List Bool)). get_or es (get_or c.numbers place 0) []) (sym same) ∙ (ap (λ (xs : List ℕ). get_or entries (get_or xs place 0) []) numbers ∙ are.own place h);
     }
 
--- there are no more of them than answers
+-- there are at most as many of them as answers
 pub groups_few : {answers : List (List Bool)} {groups : List ℕ} {entries : List (List Bool)} → AreGroupsOf answers groups entries → length entries ≤ length answers
 groups_few {answers} {groups} {entries} are = omega (arith, ap length (entries_distinct answers groups entries are), distinct-few answers)
 
@@ -70,7 +69,7 @@ each_push P xs x done long each here k d h = elim (cases_lt k done) [
       subst (λ j. P j (get_or (xs ++ x ∷ []) j d)) e (subst (P done) (sym (get_or_push xs x d done long)) here)
 ]
 
--- the same behind others, so many
+-- the same after others
 pub added_push : {X : Type 0} (P : ℕ → X → Type 0) (old : ℕ) (xs : List X) (x : X) (done : ℕ) → length xs ≡ old + done → ((k : ℕ) (d : X) → k < done → P k (get_or xs (old + k) d)) → P done x
     → (k : ℕ) (d : X) → k < done + 1 → P k (get_or (xs ++ x ∷ []) (old + k) d)
 added_push P old xs x done long each here k d h = elim (cases_lt k done) [
@@ -80,7 +79,7 @@ added_push P old xs x done long each here k d h = elim (cases_lt k done) [
       subst (λ j. P j (get_or (xs ++ x ∷ []) (old + j) d)) e (subst (P done) (sym (get_or_push xs x d (old + done) long)) here)
 ]
 
--- a class answers a candidate where it has its number
+-- a class answers a candidate exactly if it has its number
 pub code_is : (t : ClassTable) (row : List (List Bool)) (c : Candidates) → AreCandidates t row c → (class answer : ℕ) → class < class_count t → answer < length (candidates t row)
     → eqb (get_or c.numbers class 0) answer ≡ same_bits (answer_in row (representative t class)) (get_or (candidates t row) answer [])
 code_is t row c are class answer h ha =

@@ -1,4 +1,4 @@
--- What the parts of the choice need of the classes and of their candidates.
+-- What the steps of the choice need of the classes and of their candidates.
 use Rattle.std.proofs.Common.{◌≡◌, ◌∙◌, ℕ, zero, suc, ◌+◌, ◌-◌, ◌*◌, ◌<◌, ◌≤◌, Bool, cond, eqb, List, [], ◌∷◌, ◌++◌, Some, None, length, get_or, set, take, fold, refl, sym, ap, subst, arith, inl, inr}
 use Rattle.std.specs.Option.{option_map_or}
 use Rattle.std.proofs.lemmas.Bool.{cases_lt, lt-ltb, le-ltb}
@@ -28,14 +28,14 @@ pub free_candidate : (t : ClassTable) (rows : List (List (List Bool))) (pattern 
     → candidate t rows pattern (get_or c.numbers (class_at t 0) 0) ≡ answer_in (get_or rows pattern []) 0
 free_candidate t rows pattern c whole are = are.own (class_at t 0) (whole.classes 0 whole.some) ∙ ap (answer_in (get_or rows pattern [])) (first_leads t whole)
 
--- there is a candidate
+-- each number is below the count of candidates
 pub numbers_within : {t : ClassTable} {row : List (List Bool)} {c : Candidates} {numbers : List ℕ} → AreCandidates t row c → numbers ≡ c.numbers → AreBelow numbers c.count
 numbers_within {c = c} are same = subst (λ (xs : List ℕ). AreBelow xs c.count) (sym same) (λ class h. omega (arith, are.within class (omega (arith, h, are.one_each)), are.count_is))
 
 pub some_candidate : (t : ClassTable) (row : List (List Bool)) (c : Candidates) → IsWhole t → AreCandidates t row c → 0 < length (candidates t row)
 some_candidate t row c whole are = omega (arith, are.within (class_at t 0) (whole.classes 0 whole.some))
 
--- all baselines are free where each is
+-- the baselines are the fault-free ones if each of them is
 pub all_free : (t : ClassTable) (rows : List (List (List Bool))) (chosen : List ℕ) (done : ℕ) → length chosen ≡ done → length rows ≤ done → done ≤ length rows
     → ((pattern : ℕ) → pattern < done → get_or (baselines_at t rows chosen) pattern [] ≡ answer_in (get_or rows pattern []) 0) → baselines_at t rows chosen ≡ free_baselines rows
 all_free t rows chosen done long over within free =
@@ -74,7 +74,7 @@ module _ (t : ClassTable) (rows : List (List (List Bool))) where
       cut_is c.numbers (AlikeFrom t rows bs 0 pattern) (AlikeFrom t rows bs 0 (pattern + 1)) (get_or chosen pattern 0) (answers_base t rows bs pattern) before is e
       (base_is chosen pattern c h are_chosen are) (from_last t rows bs pattern) (with_last t rows bs pattern)
 
-  -- a baseline more leaves the earlier ones
+  -- one more baseline doesn't change the earlier ones
   base_was : (chosen : List ℕ) (answer q : ℕ) → q < length chosen → get_or (baselines_at t rows (chosen ++ answer ∷ [])) q [] ≡ get_or (baselines_at t rows chosen) q []
   base_was chosen answer q h =
       base_at t rows (chosen ++ answer ∷ []) q (omega (arith, h, length_push chosen answer))

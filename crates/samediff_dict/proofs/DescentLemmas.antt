@@ -122,7 +122,7 @@ module _ (d : Descent) where
 
   -- ---- pairs that are not counted
 
-  -- where two classes are not together in the partition, the replacement leaves them
+  -- if two classes are not together in the partition, the replacement changes nothing for them
   module _ (can : CanDescend d) {part : Partition} (first end pattern : ℕ) (has : HasAlike d first end part) (from : first ≤ pattern) (below : pattern < end) (within : end ≤ length d.patterns.now)
       (low high : ℕ) (hl : low < d.count) (hh : high < d.count) (apart : are_together part low high ≡ false) where
     not_alike : is_counted d.step low high ≡ true → AreAlikeOutside d first end low high → ⊥
@@ -170,7 +170,7 @@ module _ (d : Descent) where
     kept : together_of_new d pattern low high ≡ together_of_old d pattern low high
     kept = kept_at d.step refl
 
-  -- with no class listed there is nothing to do
+  -- if no class is listed there is nothing to do
   pub gains_stay : (can : CanDescend d) {part : Partition} (first end : ℕ) → HasAlike d first end part → end ≤ length d.patterns.now → length part.classes.items ≡ 0 → (rows : List (List ℕ))
       → AreGainsIn d.patterns.now (together_of_old d) first end rows → AreGainsIn d.patterns.now (together_of_new d) first end rows
   gains_stay can {part} first end has within empty rows are = record {
@@ -219,7 +219,7 @@ module _ (d : Descent) where
       step_is : IsDescentStep d step
       step_is = MatchOption-at_some (d.out ≡ length d.patterns.now) (IsDescentStep d) step at can.step_is
 
-      -- two classes of one group are together where they are on the same side at the pattern that is left out
+      -- two classes of one group are together exactly if they are on the same side at the pattern that is left out
       by_out : (chosen : List ℕ) → length chosen ≡ length d.patterns.now → ((q low high : ℕ) → q ≢ d.out → alike_at d.patterns.now chosen q low high ≡ alike_at d.patterns.now d.chosen.now q low high)
           → (low high : ℕ) → low < d.count → high < d.count → are_together part low high ≡ true → alike_but d.patterns.now chosen pattern low high ≡ alike_at d.patterns.now chosen d.out low high
       by_out chosen long same low high hl hh so =

@@ -45,7 +45,7 @@ entry_set patterns chosen same class pattern number d within =
 
 -- ---- one row after another
 
--- The first of so many rows are new, and the others are old.
+-- The first `done` of `count` rows are new, and the others are old.
 pub record AreSetTo (count : ℕ) (old new : ℕ → List Bool) (done : ℕ) (rows : List (List Bool)) : Type 0 where
   pub count_is : length rows ≡ count
   pub begun : (row : ℕ) → row < done → row_at rows row ≡ new row

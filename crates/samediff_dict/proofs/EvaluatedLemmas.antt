@@ -25,7 +25,7 @@ abbrev pub evaluated_answers : Circuit → List (List Bool) → Answers
 evaluated_answers c patterns = record { numbers = fault_count c; positions = length c.positions; rows = map (evaluated_row c) patterns }
 
 module _ (c : Circuit) (is : IsCircuit c) (f : Fault) (v bits : List Bool) (agrees : Agrees c f v bits) where
-  -- a line has one bit under two valuations where the lines that it reads have
+  -- a line has the same bit under two valuations if the lines that it reads have
   read_alike : (x : List Bool) (line : ℕ) → ((read : ℕ) → Feeds c read line → bit_at x read ≡ bit_at bits read) → line_bit c f v x line ≡ line_bit c f v bits line
   unfolding line_bit driven_bit
   read_alike x line same = ap (unwrap_or (stuck_stem f line)) (same_driven c f f v x bits line (gate_at c line) (λ pin. refl) same)

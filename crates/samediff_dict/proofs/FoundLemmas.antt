@@ -23,7 +23,7 @@ pub found_none : (c : Circuit) (leads : List ℕ) (vectors : List (List Bool)) (
 found_none c leads vectors patterns none = record { count = ap length none; each = λ pattern d h. absurd (omega (arith, h)) }
 
 module _ {c : Circuit} {leads : List ℕ} {vectors : List (List Bool)} {first : ℕ} {old new : List Candidates} where
-  -- those of the patterns of a block behind those of the patterns before it
+  -- those of the patterns of a block, after those of the patterns before it
   pub found_more : (end lanes : ℕ) → first ≤ end → lanes ≡ end - first → AreFoundTo c leads vectors first old → AreLanesAdded (answer_numbers_with c leads (Some (slice_range vectors first end))) lanes old new → AreFoundTo c leads vectors end new
   found_more end lanes le many so_far added = record {
     count = omega (arith, added.count, so_far.count, le, many);

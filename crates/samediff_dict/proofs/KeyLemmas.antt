@@ -1,4 +1,4 @@
--- The keys of classes: two have the same one exactly where they are alike at the patterns in a range.
+-- The keys of classes: two have the same one exactly if they are alike at the patterns in a range.
 use Rattle.std.proofs.Common.{◌≡◌, ◌≢◌, ◌∙◌, ℕ, ◌+◌, ◌-◌, ◌/◌, ◌<◌, ◌≤◌, ◌^◌, Bool, true, false, not, cond, eqb, ◌&&◌, List, [], length, get_or, refl, sym, ap, subst, arith, inl, inr}
 use Rattle.std.specs.Prelude.{nat_lt}
 use Rattle.std.specs.List.{position_or_len}
@@ -89,7 +89,7 @@ module _ (d : Descent) (can : CanDescend d) where
       ];
     }
 
-  -- two classes are alike at a pattern where their entries are the same there
+  -- two classes are alike at a pattern exactly if their entries are the same there
   module _ (low high pattern : ℕ) (hl : low < d.count) (hh : high < d.count) (within : pattern < length d.patterns.now) where
     alike_by_bits : row_bit d.entries.now low pattern ≡ row_bit d.entries.now high pattern → alike_at d.patterns.now d.chosen.now pattern low high ≡ true
     alike_by_bits e = beq_same (has_chosen pattern low) (has_chosen pattern high) (unlike (has_chosen pattern low) (has_chosen pattern high) (sym (entry_bit low pattern hl within) ∙ (e ∙ entry_bit high pattern hh within)))

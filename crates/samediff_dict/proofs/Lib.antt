@@ -1,3 +1,5 @@
+mod WordLemmas
+mod SparseLemmas
 pub mod Opened
 pub mod PairLemmas
 pub mod ImproveLemmas

@@ -66,7 +66,7 @@ sum_risen at f (suc many) (suc limit) rises none = elim (cases_eq (at many) limi
       omega (arith, before, none limit (omega arith) missed)
 ]
 
--- pairs of which only those of two values pass
+-- pairs, if only those of two values pass
 pairs_risen : (at : ℕ → ℕ) (p : ℕ → ℕ → Bool) (many limit : ℕ) → Rises at many limit → ((low high : ℕ) → low < high → high < limit → ((j : ℕ) → j < many → at j ≢ low) → p low high ≡ false)
     → ((low high : ℕ) → low < high → high < limit → ((j : ℕ) → j < many → at j ≢ high) → p low high ≡ false) → pairs_to limit p ≡ pairs_to many (λ i j. p (at i) (at j))
 unfolding sum_to
@@ -101,7 +101,7 @@ ascending_few xs limit up below = few_rise (λ k. get_or xs k 0) (length xs) lim
 
 -- ---- the places of classes
 
--- Two classes stand at places of one group.
+-- Two classes are at places of one group.
 pub record ArePlaced (classes group_of : List ℕ) (low high : ℕ) : Type 0 where
   pub low_at : ℕ
   pub high_at : ℕ
@@ -118,7 +118,7 @@ module _ {n : ℕ} {p : Partition} (listed : IsListed n p) where
   pub listed_few : length p.classes.items ≤ n
   listed_few = ascending_few p.classes.items n listed.ascending listed.below
 
-  -- the place of a listed class is the first one at which it stands
+  -- the place of a listed class is the first one that has it
   pub position_at : (k : ℕ) → k < length p.classes.items → position_or_len (λ other. eqb other (get_or p.classes.items k 0)) p.classes.items ≡ k
   position_at k h =
       let class = get_or p.classes.items k 0 in
@@ -165,7 +165,7 @@ module _ {n : ℕ} {p : Partition} (listed : IsListed n p) where
         ]
       ]
 
-  -- it is a partition where those that are together stand at places of one group, and those of one group are together
+  -- it is a partition if those that are together are at places of one group, and those of one group are together
   pub partition_by : (together : ℕ → ℕ → Type 0) → ((class : ℕ) → together class class)
       → ((low high : ℕ) → low < n → high < n → low ≢ high → together low high → ArePlaced p.classes.items p.groups.group_of.items low high)
       → ((i j : ℕ) → i < length p.classes.items → j < length p.classes.items → get_or p.groups.group_of.items i 0 ≡ get_or p.groups.group_of.items j 0 → together (get_or p.classes.items i 0) (get_or p.classes.items j 0))

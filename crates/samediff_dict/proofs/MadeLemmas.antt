@@ -71,7 +71,7 @@ module _ (c : Circuit) (is : IsCircuit c) (patterns : List (List Bool)) where
 
 -- ---- candidates, some patterns at a time
 
--- The table's numbers, in this order, answer what the classes do. It has the patterns from the first one on.
+-- The leads, in this order, answer in the table what the classes do. The table has the patterns that begin at `first`.
 pub record AnswerAsClasses (t : ClassTable) (rows : List (List (List Bool))) (table : Answers) (leads : List ℕ) (first : ℕ) : Type 0 where
   pub are : (pattern : ℕ) → pattern < length table.rows → map (answer_to table pattern) leads ≡ class_answers t (get_or rows (first + pattern) [])
 
@@ -93,7 +93,7 @@ leads_answer t table leads are =
     let same : pattern ≡ 0 + pattern = omega arith in
     ap (answer_to table pattern) (lead_at t leads are class hc) ∙ ap (λ p. answer_in (get_or table.rows p []) (representative t class)) same)
 
--- The candidates of the first patterns are numbered, so many.
+-- The candidates of the first `done` patterns are numbered.
 pub record AreNumberedTo (t : ClassTable) (rows : List (List (List Bool))) (done : ℕ) (patterns : List Candidates) : Type 0 where
   pub count : length patterns ≡ done
   pub each : (pattern : ℕ) (d : Candidates) → pattern < done → AreCandidates t (get_or rows pattern []) (get_or patterns pattern d)
@@ -137,7 +137,6 @@ module _ (t : ClassTable) (rows : List (List (List Bool))) (patterns : List Cand
 
 module _ (k : ClassTable) (t : Answers) (patterns : List Candidates) (chosen : List ℕ) (numbered : HaveCandidates k t.rows patterns) (long : length chosen ≡ length t.rows) (are_chosen : AreChosen k t.rows chosen)
     (baselines : AreRows (length t.rows) t.positions (baselines_at k t.rows chosen)) where
-  -- no candidates
   abbrev none : Candidates
   none = record { numbers = []; count = 0 }
 

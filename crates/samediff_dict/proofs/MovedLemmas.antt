@@ -28,7 +28,7 @@ pairs_sum n p q =
     ∙ sum_to_where (λ high. sum_to (λ low. one_if (p low high)) high + sum_to (λ low. one_if (q low high)) high) (λ high. sum_to (λ low. one_if (p low high) + one_if (q low high)) high) n
     (λ high h. sym (sum_to_both (λ low. one_if (p low high)) (λ low. one_if (q low high)) high))
 
--- where each pair passes as many of two tests as of two others
+-- if each pair passes as many of two tests as of two others
 pub pairs_exchanged : (n : ℕ) (p q r s : ℕ → ℕ → Bool) → ((low high : ℕ) → low < high → high < n → one_if (p low high) + one_if (q low high) ≡ one_if (r low high) + one_if (s low high))
     → pairs_to n p + pairs_to n q ≡ pairs_to n r + pairs_to n s
 pairs_exchanged n p q r s same =
@@ -100,7 +100,7 @@ gain_few together answers answer =
     let n = length answers in
     omega (arith, pairs_are n (tells_apart together answers answer), pairs_all (tells_apart together answers answer) n)
 
--- two gains of so few classes have a sum that fits
+-- the sum of two gains fits for fewer than 2^32 classes
 pub gains_fit : (together other : ℕ → ℕ → Bool) (answers : List ℕ) (answer : ℕ) → length answers < 2 ^ 32 → gain_at together answers answer + gain_at other answers answer < 2 ^ 64
 gains_fit together other answers answer few =
     let n = length answers in

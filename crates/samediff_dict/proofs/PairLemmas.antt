@@ -95,7 +95,7 @@ pairs-few n p =
 
 -- ---- all ordered pairs
 
--- Where no number is paired with itself, the ordered pairs are those of the lower number first and those of the higher one first.
+-- If `D` is 0 for each number with itself, the sum over all ordered pairs is the sum over pairs of `D` in both orders.
 pub square_halves : (D : ℕ → ℕ → ℕ) (n : ℕ) → ((k : ℕ) → D k k ≡ 0) → sum_to (λ i. sum_to (D i) n) n ≡ sum_to (λ high. sum_to (λ low. D low high + D high low) high) n
 unfolding sum_to
 square_halves D zero none = refl

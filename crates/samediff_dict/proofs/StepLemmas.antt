@@ -53,7 +53,7 @@ module _ (t : ClassTable) (rows : List (List (List Bool))) where
 
   -- ---- what a candidate adds
 
-  -- One baseline is replaced: by a test of what is alike in the others, before it and behind it.
+  -- One baseline is replaced: by a test of what is alike in the others, before it and after it.
   pub replaced_apart : (baselines : List (List Bool)) → length baselines ≡ length rows → (pattern : ℕ) → pattern < length rows → (together : ℕ → ℕ → Bool) (answers : List ℕ) (answer : ℕ) (base : List Bool)
       → ((low high : ℕ) → low < class_count t → high < class_count t → Decides (together low high) (AlikeFrom t rows baselines 0 pattern low high × AlikeFrom t rows baselines (pattern + 1) (length rows) low high)) → length answers ≡ class_count t
       → ((class : ℕ) → class < class_count t → eqb (get_or answers class 0) answer ≡ same_bits (answer_in (get_or rows pattern []) (representative t class)) base)

@@ -1,4 +1,4 @@
--- Pairs apart by groups: two classes have the same entry where each baseline is the answer of both or of neither.
+-- Pairs apart by groups: two classes have the same entry exactly if each baseline is the answer of both or of neither.
 use Rattle.std.proofs.Common.{◌≡◌, ◌∙◌, ℕ, ◌+◌, ◌<◌, Bool, true, false, not, eqb, ◌&&◌, List, [], length, get_or, refl, sym, ap, arith, Decides}
 use Rattle.std.specs.Bool.{beq}
 use Rattle.std.proofs.lemmas.Bool.{eqb-true, eq-eqb, and_parts, and_from}

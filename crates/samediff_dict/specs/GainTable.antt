@@ -1,4 +1,5 @@
--- The gains of the candidates of all patterns: how many pairs each tells apart, of those that are alike at the other patterns.
+-- The gains of the candidates of all patterns: how many pairs each tells apart, among those that are alike at the other
+-- patterns.
 use Rattle.std.specs.Prelude.{◌≡◌, ◌<◌, ◌≤◌, ◌==◌, ◌||◌, ℕ, Bool, List, [], length, slice_index, slice_index_or}
 use Rattle.std.specs.List.{list_all, range_with_len}
 use Rattle.samediff_dict.specs.declared.numbering.Candidates.{Candidates}
@@ -13,20 +14,21 @@ candidates_in patterns pattern = slice_index_or patterns pattern (record { numbe
 abbrev pub alike_at : List Candidates → List ℕ → ℕ → ℕ → ℕ → Bool
 alike_at patterns chosen pattern low high = same_side (candidates_in patterns pattern).numbers (slice_index chosen pattern) low high
 
--- whether they are alike at each pattern but one
+-- whether two classes are alike at each pattern except one
 unfoldable pub alike_but : List Candidates → List ℕ → ℕ → ℕ → ℕ → Bool
 alike_but patterns chosen pattern low high = list_all (λ other. other == pattern || alike_at patterns chosen other low high) (range_with_len 0 (length chosen))
 
--- The rows of a range of patterns have the gains of their candidates, by the pairs that are together for each pattern.
+-- The rows of the patterns in a range have the gains of their candidates, over the pairs that are together for each
+-- pattern.
 pub record AreGainsIn (patterns : List Candidates) (together : ℕ → ℕ → ℕ → Bool) (first end : ℕ) (rows : List (List ℕ)) : Type 0 where
   pub each : (pattern : ℕ) → first ≤ pattern → pattern < end → AreGains (together pattern) (candidates_in patterns pattern).numbers (candidates_in patterns pattern).count (slice_index_or rows pattern [])
 
--- There is such a row for each pattern.
+-- There is such a row for each pattern, and no other one.
 pub record HaveGains (patterns : List Candidates) (together : ℕ → ℕ → ℕ → Bool) (rows : List (List ℕ)) : Type 0 where
   pub count_is : length rows ≡ length patterns
   pub gains : AreGainsIn patterns together 0 (length patterns) rows
 
--- Only rows in a range may differ.
+-- There are as many rows as before, and only those in the range may differ.
 pub record KeepsRowsOutside (first end : ℕ) (old new : List (List ℕ)) : Type 0 where
   pub long : length new ≡ length old
   pub before : (pattern : ℕ) → pattern < first → slice_index_or new pattern [] ≡ slice_index_or old pattern []

@@ -12,6 +12,6 @@ NoneIsLeft = (t : ClassTable) (rows : List (List (List Bool))) → improvement t
 abbrev pub KeepsAsMany : Type 0
 KeepsAsMany = (t : ClassTable) (rows : List (List (List Bool))) → pairs_apart t rows (free_baselines rows) ≤ pairs_apart t rows (chosen_baselines t rows)
 
--- No row in place of one of the chosen baselines, an answer or not, keeps more pairs apart.
+-- No row in place of one of the chosen baselines keeps more pairs apart, even one that no class answers.
 abbrev pub NoRowIsBetter : Type 0
 NoRowIsBetter = (t : ClassTable) (rows : List (List (List Bool))) (pattern : ℕ) (row : List Bool) → pairs_apart t rows (slice_set (chosen_baselines t rows) pattern row) ≤ pairs_apart t rows (chosen_baselines t rows)

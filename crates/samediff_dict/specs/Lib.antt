@@ -1,3 +1,4 @@
+pub mod Sparse
 pub mod Chosen
 pub mod PlaceGroups
 pub mod Cells

@@ -1,4 +1,5 @@
-//! The first two steps of the choice: pattern by pattern, and against the fault-free answers.
+//! The first two steps of the choice: the best candidate pattern by pattern, then a comparison with the fault-free
+//! answers.
 
 ghost use Rattle.std.specs.Prelude.{◌≡◌, ◌<◌, Bool, List, length, slice_index_or, nat_lt, IfOk};
 ghost use Rattle.net_model.specs.ClassTable.{class_count};
@@ -15,7 +16,7 @@ use crate::partition::Partition;
 use class_refine::Classes;
 use std::alloc::{AllocError, Global};
 
-/// The numbers of the baselines that the three steps choose among the candidates of each pattern.
+/// Returns the numbers of the baselines that the three steps choose among the candidates of each pattern.
 pub(crate) fn choose_numbers(
     alloc: Global,
     classes: &Classes,
@@ -33,7 +34,8 @@ pub(crate) fn choose_numbers(
     choice.chosen(alloc)
 }
 
-/// What the baselines are chosen from: for each pattern the number of candidates, and which of them each class answers.
+/// What the baselines are chosen from: the classes, their `count`, and for each pattern its candidates, with the one
+/// that each class answers.
 #[derive(Clone, Copy)]
 pub(crate) struct BaselineChoice<'a> {
     pub(crate) classes: &'a Classes,
@@ -42,7 +44,6 @@ pub(crate) struct BaselineChoice<'a> {
 }
 
 impl BaselineChoice<'_> {
-    // What the three steps choose.
     fn chosen(&self, alloc: Global) -> Result<Vec<u32>, AllocError>
         ghost rows: { List (List (List Bool)) }
         requires { IsChoice rows self.now }
@@ -53,7 +54,7 @@ impl BaselineChoice<'_> {
         Ok(chosen)
     }
 
-    // Pattern by pattern the candidate that adds most pairs.
+    // Chooses, pattern by pattern, the first candidate that adds most pairs.
     fn greedy(&self, alloc: Global) -> Result<Vec<u32>, AllocError>
         ghost rows: { List (List (List Bool)) }
         requires { IsChoice rows self.now }
@@ -68,7 +69,7 @@ impl BaselineChoice<'_> {
         Ok(chosen)
     }
 
-    // Cuts the groups by the candidate of a pattern that tells most pairs apart, and answers its number.
+    // Cuts the groups by the first candidate of the pattern that tells most pairs apart, and returns its number.
     fn cut_most(
         &self,
         alloc: Global,
@@ -89,7 +90,7 @@ impl BaselineChoice<'_> {
         Ok(best)
     }
 
-    // The fault-free answers.
+    // Returns the numbers of the fault-free answers.
     fn fault_free(&self, alloc: Global) -> Result<Vec<u32>, AllocError>
         ghost rows: { List (List (List Bool)) }
         requires { IsChoice rows self.now }
@@ -104,7 +105,7 @@ impl BaselineChoice<'_> {
         Ok(chosen)
     }
 
-    // How many pairs the baselines keep apart.
+    // Returns how many pairs of classes the baselines keep apart.
     fn apart(&self, alloc: Global, chosen: &[u32]) -> Result<u64, AllocError>
         ghost rows: { List (List (List Bool)) }
         requires choice { IsChoice rows self.now }
@@ -119,7 +120,7 @@ impl BaselineChoice<'_> {
         told.apart(alloc, self.count)
     }
 
-    // Those of the first step, or the fault-free ones where they keep more pairs apart.
+    // Returns the fault-free baselines if they keep more pairs apart than those of the first step, and else the latter.
     fn better(&self, alloc: Global) -> Result<Vec<u32>, AllocError>
         ghost rows: { List (List (List Bool)) }
         requires { IsChoice rows self.now }
@@ -133,7 +134,7 @@ impl BaselineChoice<'_> {
         Ok(greedy)
     }
 
-    // Whether other baselines keep more pairs apart.
+    // Returns whether `other` keeps more pairs apart than `chosen`.
     fn keep_more(&self, alloc: Global, chosen: &[u32], other: &[u32]) -> Result<bool, AllocError>
         ghost rows: { List (List (List Bool)) }
         requires choice { IsChoice rows self.now }

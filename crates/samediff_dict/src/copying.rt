@@ -1,4 +1,4 @@
-//! The rows of the chosen baselines, copied out of a table of answers.
+//! Baselines chosen from a table of answers: the rows of the chosen candidates.
 
 ghost use Rattle.std.specs.Prelude.{◌≡◌, ◌+◌, ◌<◌, ◌≤◌, ℕ, Bool, List, length, slice_index, All, Contains, IfOk};
 ghost use Rattle.net_model.specs.ClassTable.{class_count};
@@ -9,13 +9,14 @@ ghost use Rattle.samediff_dict.specs.Copied.{HaveClasses, AreLeads, AreWanted};
 
 use crate::choosing::choose_numbers;
 use crate::numbering::{Candidates, add_candidates};
+use crate::numbers::SparseNumbers;
 use class_refine::Classes;
 use net_model::AnswerRows;
-use sparse_numbers::SparseNumbers;
 use std::alloc::{AllocError, Global};
 use table_dicts::{AnswerTable, representatives};
 
-/// The baselines that the three steps choose, a row for each pattern. Members of one class have the same answers.
+/// Returns the baselines that the three steps choose, a row for each pattern. Members of one class must have the same
+/// answers in `table`.
 pub fn choose(
     alloc: Global,
     table: &AnswerTable,
@@ -31,7 +32,7 @@ pub fn choose(
     chosen_rows(alloc, table, classes, patterns.as_slice())
 }
 
-// The baselines that are chosen among the candidates of a table's patterns.
+// Returns the baselines that are chosen among the candidates of the table's patterns.
 fn chosen_rows(
     alloc: Global,
     table: &AnswerTable,
@@ -50,7 +51,7 @@ fn chosen_rows(
     own_rows(alloc, table, leads.as_slice())
 }
 
-// An answer to each pattern of a table. For each there is the number whose answer it is.
+// Returns for each pattern of the table the answer of the number that `numbers` has for it.
 fn own_rows(alloc: Global, table: &AnswerTable, numbers: &[u32]) -> Result<AnswerRows, AllocError>
     requires known { All (λ number. number < table.now.numbers) numbers.now }
     requires one_each { length numbers.now ≡ length table.now.rows }
@@ -61,7 +62,7 @@ fn own_rows(alloc: Global, table: &AnswerTable, numbers: &[u32]) -> Result<Answe
     Ok(rows)
 }
 
-/// For each pattern the lowest number of a class that has the chosen one among its candidates.
+/// Returns for each pattern the lowest number of a class whose candidate there is the chosen one.
 pub(crate) fn chosen_leads(
     alloc: Global,
     classes: &Classes,
@@ -80,8 +81,8 @@ pub(crate) fn chosen_leads(
     Ok(leads)
 }
 
-/// Copies an answer to each pattern of a table into rows, from the first one on. For each pattern there is the number whose
-/// answer it is.
+/// Copies an answer to each pattern of the table into `rows`, starting at row `first`. `numbers` has for each pattern
+/// the number whose answer it is.
 pub(crate) fn copy_own(table: &AnswerTable, numbers: &[u32], first: usize, rows: &mut AnswerRows)
     requires known { All (λ number. number < table.now.numbers) numbers.now }
     requires one_each { length numbers.now ≡ length table.now.rows }
@@ -96,7 +97,7 @@ pub(crate) fn copy_own(table: &AnswerTable, numbers: &[u32], first: usize, rows:
     }
 }
 
-// The lowest class that has a number.
+// Returns a class that has `number`.
 fn class_with(numbers: &SparseNumbers, number: u32) -> usize
     requires { Contains numbers.now number }
     ensures within { result < length numbers.now }

@@ -1,4 +1,4 @@
-//! The descent over halves of the patterns, by which the gains of all candidates are counted or repaired.
+//! The descent over halves of the patterns, which counts or repairs the gains of all candidates.
 
 ghost use Rattle.std.specs.Prelude.{◌≡◌, ◌+◌, ◌<◌, ◌≤◌, ℕ, length, slice_index, IfOk, OnOk};
 ghost use Rattle.samediff_dict.specs.Partition.{IsListed};
@@ -16,8 +16,9 @@ use std::alloc::{AllocError, Global};
 
 const WORD_BITS: usize = 64;
 
-/// What the gains are counted by: the candidates of each pattern with the chosen ones, and by them the entry of each class. Or
-/// what they are repaired after: a candidate in place of the one that is chosen at a pattern, which is then left out.
+/// What the gains are counted from: the candidates of each pattern, the `chosen` ones, and the entry of each class by
+/// these. With a `step` the gains are repaired instead, after another candidate took the place of the chosen one at
+/// pattern `out`, which is then left out.
 #[derive(Clone, Copy)]
 pub(crate) struct Descent<'a, 'b> {
     pub(crate) count: u32,
@@ -29,7 +30,7 @@ pub(crate) struct Descent<'a, 'b> {
 }
 
 impl Descent<'_, '_> {
-    /// Counts the gains, or repairs them.
+    /// Counts the gains of all patterns, or with a `step` repairs them.
     pub(crate) fn run(&self, alloc: Global, table: &mut GainTable) -> Result<(), AllocError>
         requires can { CanDescend self.now }
         requires gains { HaveGains self.now.patterns.now (together_of_old self.now) table.old }
@@ -42,8 +43,8 @@ impl Descent<'_, '_> {
         self.descend(alloc, &whole, 0, self.patterns.len(), table)
     }
 
-    // Counts or repairs the gains of the patterns in a range. The partition has the classes that are alike outside it: at each half
-    // those are left that are alike at the patterns of the other one too.
+    // Counts or repairs the gains of the patterns in `first..end`. `part` has the classes that are alike outside this
+    // range. Each half gets those that are alike at the patterns of the other half too.
     fn descend(
         &self,
         alloc: Global,
@@ -74,8 +75,8 @@ impl Descent<'_, '_> {
         self.descend(alloc, &right, middle, end, table)
     }
 
-    // Counts or repairs the gains of one pattern. The partition has the classes that are alike at all others. Those of the pattern
-    // that is left out stay.
+    // Counts or repairs the gains of one pattern. `part` has the classes that are alike at all others. The gains of
+    // pattern `out` stay.
     fn leaf(
         &self,
         alloc: Global,
@@ -103,7 +104,7 @@ impl Descent<'_, '_> {
         table.repair(alloc, pattern, part, step, &candidates.numbers)
     }
 
-    // The classes of a partition that are alike at the patterns in a range, 64 patterns after 64.
+    // Returns the groups of `part` cut by the patterns in `first..end`, 64 patterns at a time.
     fn narrowed(
         &self,
         alloc: Global,
@@ -130,8 +131,8 @@ impl Descent<'_, '_> {
         Ok(rest)
     }
 
-    // The classes of a partition that are alike at the patterns in a range, which fit a word. Groups with no pair that counts are
-    // left out.
+    // Returns the groups of `part` cut by the patterns in `first..end`, which fit a word. Groups with no pair that
+    // counts are left out.
     fn cut_by(
         &self,
         alloc: Global,
@@ -154,7 +155,8 @@ impl Descent<'_, '_> {
         cut.mixed(alloc, step)
     }
 
-    // A key for each of these classes. Those that are alike at the patterns in a range have the same key.
+    // Returns a key for each of `classes`. Classes that are alike at the patterns in `first..end`, `out` aside, have
+    // the same key.
     fn keys(
         &self,
         alloc: Global,
@@ -177,7 +179,8 @@ impl Descent<'_, '_> {
         Ok(keys)
     }
 
-    // The bits of a class's entry at the patterns in a range, the lowest first. The bit at the pattern that is left out is cleared.
+    // Returns the bits of the class's entry at the patterns in `first..end`, the lowest first. The bit of pattern `out`
+    // is 0.
     fn key(&self, class: usize, first: usize, end: usize) -> u64
         requires can { CanDescend self.now }
         requires some { first < end }

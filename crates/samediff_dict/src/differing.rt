@@ -1,4 +1,5 @@
-//! The entries of the classes: at which patterns they answer otherwise than chosen.
+//! The entries of the classes, written by words: at which patterns each class answers otherwise than chosen. Also the
+//! change of one baseline in them.
 
 ghost use Rattle.std.specs.Prelude.{◌≡◌, ◌<◌, length, slice_set, IfOk};
 ghost use Rattle.net_model.specs.Answer.{bit_at};
@@ -11,7 +12,8 @@ use dict_rows::write_row;
 use net_model::AnswerRows;
 use std::alloc::{AllocError, Global};
 
-/// The entry of each of so many classes: a bit for each pattern, set where the class answers otherwise than chosen.
+/// Returns the entries of the first `classes` classes: a bit for each pattern, set if the class answers otherwise than
+/// chosen.
 pub(crate) fn class_entries(
     alloc: Global,
     patterns: &[Candidates],
@@ -29,7 +31,7 @@ pub(crate) fn class_entries(
     Ok(entries)
 }
 
-/// Puts another number in the place of that which is chosen at a pattern into the entries of the classes.
+/// Changes the entries of the classes to those with `number` in place of the chosen one at `pattern`.
 pub(crate) fn put_chosen(
     patterns: &[Candidates],
     chosen: &[u32],
@@ -49,7 +51,6 @@ pub(crate) fn put_chosen(
     }
 }
 
-// Writes the entry of a class.
 fn write_entry(patterns: &[Candidates], chosen: &[u32], class: usize, entries: &mut AnswerRows)
     requires numbers { HasNumbers class patterns.now chosen.now }
     requires class { class < length entries.old }
@@ -61,7 +62,7 @@ fn write_entry(patterns: &[Candidates], chosen: &[u32], class: usize, entries: &
     });
 }
 
-// Whether a class answers otherwise than chosen at a pattern.
+// Returns whether the class has another number at the pattern than the chosen one.
 fn answers_otherwise(patterns: &[Candidates], chosen: &[u32], class: usize, pattern: usize) -> bool
     requires numbers { HasNumbers class patterns.now chosen.now }
     requires pattern { pattern < length chosen.now }

@@ -8,8 +8,8 @@ ghost use Rattle.samediff_dict.specs.GainTable.{KeepsRowsOutside};
 
 use crate::moved::Move;
 use crate::numbering::Candidates;
+use crate::numbers::SparseNumbers;
 use crate::partition::Partition;
-use sparse_numbers::SparseNumbers;
 use std::alloc::{AllocError, Global};
 use std::marker::Model;
 
@@ -28,7 +28,7 @@ impl Model for GainTable {
 }
 
 impl GainTable {
-    /// No pairs yet, for the candidates of each pattern.
+    /// Returns a table with a 0 for each candidate of each pattern.
     pub(crate) fn none(alloc: Global, patterns: &[Candidates]) -> Result<GainTable, AllocError>
         ensures { IfOk result (λ table. table ≡ map (λ candidates. replicate candidates.count 0) patterns.now) }
     {
@@ -40,7 +40,7 @@ impl GainTable {
         Ok(GainTable { rows })
     }
 
-    /// The gains of a pattern's candidates.
+    /// Returns the gains of the pattern's candidates.
     pub(crate) fn row(&self, pattern: usize) -> &[u64]
         requires { pattern < length self.now }
         ensures { result.now ≡ slice_index_or self.now pattern [] }
@@ -48,7 +48,7 @@ impl GainTable {
         self.rows[pattern].as_slice()
     }
 
-    /// Puts gains in the place of those of a pattern's candidates.
+    /// Replaces the gains of the pattern's candidates.
     pub(crate) fn set(&mut self, pattern: usize, gains: Vec<u64>)
         requires { pattern < length self.old }
         ensures { self.new ≡ slice_set self.old pattern gains.items }
@@ -56,8 +56,8 @@ impl GainTable {
         self.rows[pattern] = gains;
     }
 
-    /// Repairs the gains of a pattern's candidates after a replacement at another. The partition has the pairs that it may put
-    /// together or part.
+    /// Repairs the gains of the pattern's candidates after the replacement `step` at another pattern. `part` has the
+    /// pairs of classes that the replacement may put together or split.
     pub(crate) fn repair(
         &mut self,
         alloc: Global,

@@ -5,12 +5,13 @@ ghost use Rattle.samediff_dict.specs.PlaceGroups.{AreBelow, AreGains, AreGroups,
 ghost use Rattle.samediff_dict.specs.Partition.{IsListed, are_together};
 
 use crate::groups::{PlaceGroups, Tally};
+use crate::numbers::SparseNumbers;
 use crate::partition::{Partition, keys_at};
-use sparse_numbers::SparseNumbers;
 use std::alloc::{AllocError, Global};
 
 impl PlaceGroups {
-    // How many pairs of places of one group each candidate tells apart. The list has the candidate that each place answers.
+    // Returns for each candidate how many pairs of places in one group it tells apart. `answers` has the candidate that
+    // each place answers.
     fn gains(
         &self,
         alloc: Global,
@@ -29,7 +30,7 @@ impl PlaceGroups {
         self.gains_by(alloc, answers, candidates, &cells, &all, &alike)
     }
 
-    // The same by the sizes of the groups and those of their parts that answer alike.
+    // As `gains`, by the sizes of the groups (`all`) and those of their parts that answer alike (`alike`).
     fn gains_by(
         &self,
         alloc: Global,
@@ -63,7 +64,7 @@ impl PlaceGroups {
 }
 
 impl Partition {
-    /// The first candidate that tells most pairs apart.
+    /// Returns the first of the candidates that tell most pairs apart.
     pub(crate) fn first_most(
         &self,
         alloc: Global,
@@ -80,7 +81,7 @@ impl Partition {
         Ok(place_of_most(gains.as_slice()) as u32)
     }
 
-    /// How many pairs of classes that are together each candidate tells apart.
+    /// Returns for each candidate how many pairs of classes that are together it tells apart.
     pub(crate) fn gains(
         &self,
         alloc: Global,
@@ -97,7 +98,6 @@ impl Partition {
     }
 }
 
-// The size of the group of a place.
 pub(crate) fn size_of(groups: &[u32], sizes: &[u32], place: usize) -> u32
     requires place { place < length groups.now }
     requires within { AreBelow groups.now (length sizes.now) }
@@ -106,7 +106,7 @@ pub(crate) fn size_of(groups: &[u32], sizes: &[u32], place: usize) -> u32
     sizes[groups[place] as usize]
 }
 
-// The first place of the greatest number.
+// Returns the first place of the greatest number.
 fn place_of_most(gains: &[u64]) -> usize
     requires { 0 < length gains.now }
     ensures { IsFirstMost (slice_index gains.now) (length gains.now) result }
@@ -120,7 +120,7 @@ fn place_of_most(gains: &[u64]) -> usize
     best
 }
 
-/// The first place of a greater number than that at a place.
+/// Returns the first place whose number is greater than that at `current`, or none.
 pub(crate) fn place_above(gains: &[u64], current: usize) -> Option<usize>
     requires { current < length gains.now }
     ensures { IsFoundAbove (slice_index gains.now) (length gains.now) current result }

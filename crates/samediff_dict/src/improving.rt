@@ -16,7 +16,7 @@ use crate::moved::Move;
 use net_model::AnswerRows;
 use std::alloc::{AllocError, Global};
 
-/// A candidate in place of the baseline of a pattern.
+/// A candidate, by its number `answer`, in place of the baseline of a pattern.
 #[derive(Clone, Copy)]
 pub(crate) struct Replacement {
     pub(crate) pattern: usize,
@@ -24,7 +24,7 @@ pub(crate) struct Replacement {
 }
 
 impl BaselineChoice<'_> {
-    /// Replaces baselines as long as one replacement keeps more pairs apart.
+    /// Replaces single baselines, each time by the first replacement that keeps more pairs apart, until there is none.
     pub(crate) fn improve(&self, alloc: Global, chosen: &mut [u32]) -> Result<(), AllocError>
         ghost rows: { List (List (List Bool)) }
         requires choice { IsChoice rows self.now }
@@ -36,7 +36,7 @@ impl BaselineChoice<'_> {
         self.replace_all(alloc, chosen, &mut entries, &mut table)
     }
 
-    // The gains of the candidates of all patterns.
+    // Returns the gains of the candidates of all patterns.
     fn counted(
         &self,
         alloc: Global,
@@ -62,7 +62,7 @@ impl BaselineChoice<'_> {
         Ok(table)
     }
 
-    // Replaces baselines as long as one replacement keeps more pairs apart.
+    // As `improve`, given the entries of the classes and the gains of the candidates.
     fn replace_all(
         &self,
         alloc: Global,
@@ -94,7 +94,7 @@ impl BaselineChoice<'_> {
         }
     }
 
-    // The first replacement that keeps more pairs apart, if there is one.
+    // Returns the first replacement that keeps more pairs apart, or none if there is none.
     fn improvement(&self, chosen: &[u32], table: &GainTable) -> Option<Replacement>
         ghost rows: { List (List (List Bool)) }
         requires choice { IsChoice rows self.now }
@@ -112,7 +112,7 @@ impl BaselineChoice<'_> {
         None
     }
 
-    // The gains after a replacement.
+    // Repairs the gains after the replacement `better`.
     fn repair(
         &self,
         alloc: Global,

@@ -12,7 +12,7 @@ pub fn keeps_as_many()
     ensures { KeepsAsMany }
 {}
 
-/// No row in place of one of the chosen baselines keeps more pairs apart, also one that no class answers.
+/// No row in place of one of the chosen baselines keeps more pairs apart, even one that no class answers.
 pub fn no_row_is_better()
     ensures { NoRowIsBetter }
 {}

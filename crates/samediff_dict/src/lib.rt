@@ -13,9 +13,11 @@ mod laws;
 mod made;
 mod moved;
 mod numbering;
+mod numbers;
 mod partition;
 mod setting;
 
 pub use copying::choose;
 pub use laws::{keeps_as_many, no_row_is_better, none_is_left};
 pub use made::same_diff_at;
+pub use numbers::SparseNumbers;

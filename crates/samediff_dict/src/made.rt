@@ -1,4 +1,4 @@
-//! The same/different dictionary of a circuit at patterns.
+//! The same/different dictionary of a circuit at patterns, with the chosen baselines.
 
 ghost use Rattle.std.specs.Prelude.{IfOk};
 ghost use Rattle.table_dicts.specs.Setting.{IsSetting, AreAnswersAt};
@@ -14,9 +14,9 @@ use crate::setting::{baselines, candidates};
 use std::alloc::{AllocError, Global};
 use table_dicts::{Dict, DictKind, Setting, dict_of_classes};
 
-/// The same/different dictionary of a circuit at patterns, with the chosen baselines. In memory there are the number of each
-/// class's answer to each pattern where it isn't 0, the entry of each class, the gain of each candidate, and the answers themselves to some
-/// patterns at a time.
+/// Returns the same/different dictionary of the circuit at the patterns, with the chosen baselines. In memory are the
+/// number of each class's answer to each pattern if it isn't 0, the entry of each class, the gain of each candidate,
+/// and the answers themselves to one block of patterns at a time.
 pub fn same_diff_at(alloc: Global, setting: &Setting) -> Result<Dict, AllocError>
     requires { IsSetting setting.now }
     ensures { IfOk result (λ dict. (t : Answers) → AreAnswersAt setting.now t → IsSameDiff t (chosen_baselines setting.now.classes.now t.rows) dict) }
@@ -26,7 +26,7 @@ pub fn same_diff_at(alloc: Global, setting: &Setting) -> Result<Dict, AllocError
     dict_among(alloc, setting, found.as_slice())
 }
 
-// The dictionary with the baselines that are chosen among the candidates.
+// Returns the dictionary with the baselines that are chosen among the candidates.
 fn dict_among(alloc: Global, setting: &Setting, patterns: &[Candidates]) -> Result<Dict, AllocError>
     ghost t: { Answers }
     requires setting { IsSetting setting.now }
@@ -38,7 +38,7 @@ fn dict_among(alloc: Global, setting: &Setting, patterns: &[Candidates]) -> Resu
     dict_with(alloc, setting, patterns, chosen.as_slice())
 }
 
-// The dictionary with the baselines of these numbers among the candidates.
+// Returns the dictionary with the baselines that have the numbers `chosen` among the candidates.
 fn dict_with(
     alloc: Global,
     setting: &Setting,

@@ -1,5 +1,5 @@
-//! A candidate in place of another at a pattern: the groups in which that can put classes together or part them, and the gains at
-//! another pattern after it.
+//! A candidate in place of another at a pattern: the groups in which this can put classes together or split them, and
+//! the gains at another pattern after it.
 
 ghost use Rattle.std.specs.Prelude.{◌≡◌, ◌+◌, ◌*◌, ◌<◌, ◌≤◌, ◌^◌, ◌==◌, ◌||◌, EachIndex, IfOk, OnOk, filter, length, slice_index};
 ghost use Rattle.std.specs.List.{range_with_len};
@@ -8,11 +8,11 @@ ghost use Rattle.samediff_dict.specs.Partition.{IsListed};
 ghost use Rattle.samediff_dict.specs.PlaceGroups.{AreBelow};
 
 use crate::groups::{PlaceGroups, side_of};
+use crate::numbers::SparseNumbers;
 use crate::partition::{Partition, numbers_at, picked};
-use sparse_numbers::SparseNumbers;
 use std::alloc::{AllocError, Global};
 
-/// A candidate's number in place of another at a pattern. The list has the number of each class there.
+/// The number `new` of a candidate in place of `old` at a pattern. `numbers` has the number of each class there.
 #[derive(Clone, Copy)]
 pub(crate) struct Move<'a> {
     pub(crate) numbers: &'a SparseNumbers,
@@ -21,7 +21,7 @@ pub(crate) struct Move<'a> {
 }
 
 impl PlaceGroups {
-    // The places of the groups in which one that is moved stands with one that isn't, ascending.
+    // Returns, ascending, the places of each group that has both a place that is moved and one that isn't.
     fn mixed(
         &self,
         alloc: Global,
@@ -38,7 +38,7 @@ impl PlaceGroups {
         self.two_sided(alloc, sides.as_slice())
     }
 
-    // Marks for each group whether a place stands in it that is moved, and whether one does that isn't.
+    // Marks for each group whether it has a place that is moved, and whether it has one that isn't.
     fn sides(
         &self,
         alloc: Global,
@@ -59,7 +59,7 @@ impl PlaceGroups {
         Ok(sides)
     }
 
-    // The places of the groups of which both sides are marked, ascending.
+    // Returns, ascending, the places of each group with both sides marked.
     fn two_sided(&self, alloc: Global, sides: &[bool]) -> Result<Vec<u32>, AllocError>
         requires few { length self.now.group_of.items < 2 ^ 32 }
         requires within { AreBelow self.now.group_of.items self.now.count }
@@ -78,7 +78,7 @@ impl PlaceGroups {
 }
 
 impl Partition {
-    /// The groups in which a class that is moved stands with one that isn't.
+    /// Returns the groups that have both a class that is moved and one that isn't.
     pub(crate) fn mixed(&self, alloc: Global, step: Move) -> Result<Partition, AllocError>
         requires few { length step.numbers.now < 2 ^ 32 }
         requires listed { IsListed (length step.numbers.now) self.now }
@@ -92,7 +92,7 @@ impl Partition {
         self.at_places(alloc, places.as_slice())
     }
 
-    // The classes at these places of the list, in their groups.
+    // Returns the listed classes at `places`, in their groups.
     fn at_places(&self, alloc: Global, places: &[u32]) -> Result<Partition, AllocError>
         requires one_each { length self.now.groups.group_of.items ≡ length self.now.classes.items }
         requires within { AreBelow places.now (length self.now.classes.items) }
@@ -108,8 +108,8 @@ impl Partition {
         })
     }
 
-    /// Repairs the gains of a pattern's candidates after a replacement at another pattern. The partition has the pairs that it may
-    /// put together or part.
+    /// Repairs the gains of a pattern's candidates after the replacement `step` at another pattern. The partition has
+    /// the pairs that the replacement may put together or split.
     pub(crate) fn repair(
         &self,
         alloc: Global,
@@ -133,14 +133,13 @@ impl Partition {
     }
 }
 
-// Whether a number is the old one or the new one.
 fn is_either(number: u32, old: u32, new: u32) -> bool
     ensures { result ≡ (number == old || number == new) }
 {
     number == old || number == new
 }
 
-// Whether both sides of the group of a place are marked.
+// Returns whether both sides of the place's group are marked.
 fn has_both_sides(groups: &[u32], sides: &[bool], place: usize) -> bool
     requires place { place < length groups.now }
     requires within { 2 * slice_index groups.now place + 1 < length sides.now }
@@ -150,7 +149,7 @@ fn has_both_sides(groups: &[u32], sides: &[bool], place: usize) -> bool
     sides[side_of(group, true)] && sides[side_of(group, false)]
 }
 
-// Adds what is more to each number, and takes away what is fewer.
+// Adds to each number what `more` has at its place, and subtracts what `fewer` has.
 fn exchange(gains: &mut [u64], more: &[u64], fewer: &[u64])
     requires more_each { length more.now ≡ length gains.old }
     requires fewer_each { length fewer.now ≡ length gains.old }

@@ -6,20 +6,20 @@ ghost use Rattle.std.specs.Prelude.{◌≡◌, ◌<◌, ◌^◌, length, map, Al
 ghost use Rattle.dict_rows.specs.AnswerTable.{answer_to};
 ghost use Rattle.dict_rows.specs.Rows.{AreRows};
 
+use crate::numbers::SparseNumbers;
 use answer_numbers::AnswerNumbers;
 use net_model::AnswerRows;
-use sparse_numbers::SparseNumbers;
 use std::alloc::{AllocError, Global};
 use table_dicts::{AnswerTable, group_rows};
 
-/// The candidates of a pattern by their numbers: which of them each class answers, and how many there are.
+/// Which candidate of a pattern each class answers, by its number, and how many candidates there are.
 #[derive(Drop)]
 pub(crate) struct Candidates {
     pub(crate) numbers: SparseNumbers,
     pub(crate) count: u32,
 }
 
-// Writes what these numbers answer to a pattern, one behind another.
+// Writes what the numbers `leads` answer to the pattern, a row for each.
 fn copy_answers(table: &AnswerTable, leads: &[u32], pattern: u32, rows: &mut AnswerRows)
     requires known { All (λ lead. lead < table.now.numbers) leads.now }
     requires pattern { pattern < length table.now.rows }
@@ -32,8 +32,8 @@ fn copy_answers(table: &AnswerTable, leads: &[u32], pattern: u32, rows: &mut Ans
     }
 }
 
-/// Puts the candidates of a table's patterns behind others. For each class there is the number of the table that answers as
-/// it does.
+/// Appends the candidates of each pattern of the table. `leads` has for each class a number of the table that answers
+/// as it does.
 pub(crate) fn add_candidates(
     alloc: Global,
     table: &AnswerTable,
@@ -52,7 +52,7 @@ pub(crate) fn add_candidates(
     Ok(())
 }
 
-// The candidates of a pattern of a table. The rows are room for the answers.
+// Returns the candidates of a pattern of the table. `rows` is room for the answers.
 fn candidates_at(
     alloc: Global,
     table: &AnswerTable,
@@ -74,7 +74,6 @@ fn candidates_at(
     Ok(Candidates { numbers, count })
 }
 
-// The same numbers.
 fn sparse(alloc: Global, numbers: &[u32]) -> Result<SparseNumbers, AllocError>
     requires { length numbers.now < 2 ^ 32 }
     ensures { IfOk result (λ same. same ≡ numbers.now) }
@@ -86,8 +85,8 @@ fn sparse(alloc: Global, numbers: &[u32]) -> Result<SparseNumbers, AllocError>
     Ok(same)
 }
 
-/// Puts the candidates of each vector of the block that was numbered last behind others. There are so many leads, and so many
-/// vectors.
+/// Appends the candidates of each vector of the block that was numbered last. `leads` and `lanes` are how many leads
+/// and vectors there are.
 pub(crate) fn add_lanes(
     alloc: Global,
     numbers: &AnswerNumbers,
@@ -106,7 +105,7 @@ pub(crate) fn add_lanes(
     Ok(())
 }
 
-// The candidates of the vector of a lane.
+// Returns the candidates of the vector in a lane.
 fn candidates_in(
     alloc: Global,
     numbers: &AnswerNumbers,

@@ -1,4 +1,4 @@
-//! The answers of the classes to a circuit's patterns, some patterns at a time.
+//! The candidates of all patterns of a circuit, a block of patterns at a time, and what the chosen ones answer.
 
 ghost use Rattle.net_model.specs.ClassTable.{class_count, representative};
 ghost use Rattle.net_model.specs.FaultList.{fault_count};
@@ -20,7 +20,7 @@ use std::alloc::{AllocError, Global};
 use table_dicts::{AnswerTable, Setting, fill_block, number_answers_at, representatives};
 use word_sim::{Block, LANES};
 
-/// The candidates of each pattern.
+/// Returns the candidates of each pattern.
 pub(crate) fn candidates(alloc: Global, setting: &Setting) -> Result<Vec<Candidates>, AllocError>
     requires { IsSetting setting.now }
     ensures { IfOk result (λ patterns. (t : Answers) → AreAnswersAt setting.now t → HaveCandidates setting.now.classes.now t.rows patterns.items) }
@@ -29,7 +29,7 @@ pub(crate) fn candidates(alloc: Global, setting: &Setting) -> Result<Vec<Candida
     candidates_of(alloc, setting, leads.as_slice())
 }
 
-// The same by the lowest number of each class.
+// As `candidates`, by the lowest number of each class in `leads`.
 fn candidates_of(
     alloc: Global,
     setting: &Setting,
@@ -63,7 +63,7 @@ fn candidates_of(
     Ok(patterns)
 }
 
-/// The baselines with these numbers among the candidates.
+/// Returns the baselines that have the numbers `chosen` among the candidates.
 pub(crate) fn baselines(
     alloc: Global,
     setting: &Setting,
@@ -86,7 +86,7 @@ pub(crate) fn baselines(
     Ok(rows)
 }
 
-// Copies the baselines of the patterns in a range.
+// Copies the baselines of the patterns in `first..end` into `rows`.
 fn copy_range(
     alloc: Global,
     setting: &Setting,
@@ -109,7 +109,8 @@ fn copy_range(
     Ok(())
 }
 
-/// Where so many patterns from a first one on end, or all patterns do.
+/// Returns the end of a range that begins at `first`: it has at least one place, at most `count` places, and none at or
+/// after `all`.
 pub(crate) fn end_after(first: usize, count: usize, all: usize) -> usize
     requires first { first < all }
     requires some { 0 < count }
@@ -120,7 +121,7 @@ pub(crate) fn end_after(first: usize, count: usize, all: usize) -> usize
     first + count.min(all - first)
 }
 
-// What the lowest class with each pattern's chosen number answers to the patterns in a range.
+// Returns what classes with the chosen numbers answer to the patterns in `first..end`, a class for each pattern.
 fn chosen_answers(
     alloc: Global,
     setting: &Setting,
@@ -143,7 +144,7 @@ fn chosen_answers(
     Ok(table)
 }
 
-// What these numbers answer to the patterns in a range.
+// Returns what `numbers` answer to the patterns in `first..end`.
 fn number_answers(
     alloc: Global,
     setting: &Setting,

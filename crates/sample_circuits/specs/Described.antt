@@ -6,10 +6,10 @@ use Rattle.net_model.specs.declared.gate.Kind.{Kind}
 use Rattle.net_model.specs.Circuit.{Circuit, circuit_with}
 use Rattle.sample_circuits.specs.declared.building.CircuitParts.{CircuitParts}
 
--- the gate of a kind that reads these lines
+-- The gate of this kind that reads these lines.
 abbrev pub described_gate : Kind × Bor (List ℕ) → Gate
 described_gate gate = record { kind = gate.0; pins = gate.1.now }
 
--- the circuit of these parts
+-- The circuit whose sources, gates and positions a test writes down.
 abbrev pub circuit_of : CircuitParts → Circuit
 circuit_of parts = circuit_with parts.sources (map described_gate parts.gates.now) parts.positions.now

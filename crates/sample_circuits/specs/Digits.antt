@@ -1,6 +1,6 @@
 -- Bits as digits.
 use Rattle.std.specs.Prelude.{ℕ, Bool, List, map, ◌==◌}
 
--- the bits of a text: 1 at each digit 1, and else 0
+-- The bits of a text: 1 for each digit 1, and 0 for each other byte.
 abbrev pub bits_of : List ℕ → List Bool
 bits_of text = map (λ digit. digit == 49) text

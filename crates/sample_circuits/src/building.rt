@@ -9,10 +9,11 @@ ghost use Rattle.sample_circuits.specs.Described.{described_gate, circuit_of};
 use net_model::{BuildFault, Circuit, Gate, Kind, Pins};
 use std::alloc::{AllocError, Global};
 
-// How many lines, positions and pins a circuit has at most.
+// The lines, positions and pins of a circuit are fewer than this together.
 const LIMIT: usize = 67_108_864;
 
-/// The parts of a circuit: how many sources, each gate's kind with the lines that it reads, and the lines that are shown.
+/// The parts of a circuit: how many sources it has, each gate's kind with the lines that it reads, and the observed
+/// lines.
 #[derive(Clone, Copy)]
 pub struct CircuitParts<'a> {
     pub sources: u32,
@@ -20,12 +21,12 @@ pub struct CircuitParts<'a> {
     pub positions: &'a [u32],
 }
 
-/// Why there is no circuit of some parts.
+/// Why there is no circuit of the parts.
 #[derive(Debug, Drop)]
 pub enum PartsFault {
-    /// They don't fit together.
+    /// The parts don't fit together.
     Unfit,
-    /// They do, but the gates form a loop, or memory ran out.
+    /// They fit together, but the gates form a loop, or memory is missing.
     Unbuilt(BuildFault),
 }
 
@@ -40,7 +41,8 @@ impl From<AllocError> for PartsFault {
     }
 }
 
-/// The circuit of these parts.
+/// Returns the circuit of the parts. Returns `Unfit` only if the parts don't fit together, and `Unbuilt` with a loop
+/// only if its lines are those of a loop of the gates.
 pub fn circuit(alloc: Global, parts: CircuitParts) -> Result<Circuit, PartsFault>
     ensures parts { IfOk result (λ circuit. circuit ≡ circuit_of parts.entry) }
     ensures circuit { IfOk result (λ circuit. IsCircuit circuit) }
@@ -58,7 +60,7 @@ pub fn circuit(alloc: Global, parts: CircuitParts) -> Result<Circuit, PartsFault
     }
 }
 
-// Gates of these kinds, each over its lines.
+// Returns gates of these kinds, each over its lines.
 fn gates_of(alloc: Global, gates: &[(Kind, &[u32])]) -> Result<Vec<Gate>, AllocError>
     ensures { IfOk result (λ made. made.items ≡ map described_gate gates.now) }
 {
@@ -69,7 +71,7 @@ fn gates_of(alloc: Global, gates: &[(Kind, &[u32])]) -> Result<Vec<Gate>, AllocE
     Ok(made)
 }
 
-/// A gate that reads these lines.
+/// Returns a gate of this kind that reads these lines.
 pub fn gate(alloc: Global, kind: Kind, lines: &[u32]) -> Result<Gate, AllocError>
     ensures kind { IfOk result (λ gate. gate.kind ≡ kind) }
     ensures pins { IfOk result (λ gate. gate.pins ≡ lines.now) }
@@ -81,7 +83,7 @@ pub fn gate(alloc: Global, kind: Kind, lines: &[u32]) -> Result<Gate, AllocError
     Ok(Gate { kind, pins })
 }
 
-/// Whether a gate of this kind takes so many pins.
+/// Returns whether a gate of this kind takes `pins` pins.
 pub fn takes(kind: Kind, pins: usize) -> bool
     ensures { result ≡ takes_pins kind pins }
 {
@@ -94,14 +96,14 @@ pub fn takes(kind: Kind, pins: usize) -> bool
     least <= pins && pins <= most
 }
 
-/// Whether all lines are among the first ones.
+/// Returns whether all lines are below `count`.
 pub fn all_below(lines: &[u32], count: usize) -> bool
     ensures { IsTrue result ↔ All (λ line. line < count) lines.now }
 {
     lines.iter().all(|line| (*line as usize) < count)
 }
 
-// Whether these parts fit together, so that a circuit can be built of them.
+// Whether the parts fit together, so that a circuit can be built of them.
 fn fit(sources: u32, gates: &[Gate], positions: &[u32]) -> bool
     ensures { IsTrue result ↔ FitsTogether (circuit_with sources gates.now positions.now) }
 {

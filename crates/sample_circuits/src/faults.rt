@@ -1,32 +1,32 @@
-//! Stuck-at faults, and whether one stands in a circuit.
+//! Stuck-at faults, and whether a circuit has one.
 
 ghost use Rattle.std.specs.Prelude.{◌≡◌, ◌↔◌, IsTrue};
 ghost use Rattle.net_model.specs.Fault.{IsFaultOf};
 
 use net_model::{Circuit, Fault, Site};
 
-/// The stem of a line, stuck at a value.
+/// Returns the fault that the stem of a line is stuck at a value.
 pub fn stem(line: u32, bit: bool) -> Fault
     ensures { result ≡ Fault.Stuck (Site.Stem line) bit }
 {
     Fault::Stuck(Site::Stem(line), bit)
 }
 
-/// A pin of a line's gate, stuck at a value.
+/// Returns the fault that a pin of a line's gate is stuck at a value.
 pub fn pin(gate: u32, at: u32, bit: bool) -> Fault
     ensures { result ≡ Fault.Stuck (Site.Pin gate at) bit }
 {
     Fault::Stuck(Site::Pin(gate, at), bit)
 }
 
-/// An observed position, stuck at a value.
+/// Returns the fault that an observed position is stuck at a value.
 pub fn position(at: u32, bit: bool) -> Fault
     ensures { result ≡ Fault.Stuck (Site.Position at) bit }
 {
     Fault::Stuck(Site::Position(at), bit)
 }
 
-/// Whether the circuit has the fault's site.
+/// Returns whether the circuit has the fault's site. This holds of no fault, too.
 pub fn stands(circuit: &Circuit, fault: Fault) -> bool
     ensures { IsTrue result ↔ IsFaultOf circuit.now fault }
 {

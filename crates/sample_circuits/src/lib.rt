@@ -1,4 +1,4 @@
-//! What the crates of tests build: circuits, faults that stand in them, and bits from text.
+//! What the crates of tests build: circuits, faults of these, and bits from text.
 #![tactic(auto)]
 
 mod building;

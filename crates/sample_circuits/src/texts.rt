@@ -7,7 +7,7 @@ ghost use Rattle.sample_circuits.specs.Digits.{bits_of};
 use net_model::Bits;
 use std::alloc::{AllocError, Global};
 
-/// The bits of a text, 1 at each digit 1 and else 0.
+/// Returns the bits of the text: 1 for each digit 1, and 0 for each other byte.
 pub fn bits(alloc: Global, text: &str) -> Result<Bits, AllocError>
     ensures { IfOk result (λ bits. bits ≡ bits_of text.now) }
 {
@@ -18,7 +18,7 @@ pub fn bits(alloc: Global, text: &str) -> Result<Bits, AllocError>
     Ok(bits)
 }
 
-/// The digits of these bits.
+/// Returns the digits of the bits as text.
 pub fn text_of(alloc: Global, bits: &Bits) -> Result<String, AllocError>
     ensures { IfOk result (λ text. string_bytes text ≡ map bit_digit bits.now) }
 {

@@ -17,7 +17,7 @@ use Rattle.bench_reader.specs.Driven.{driven_numbers, used_numbers, takes_its_pi
 use Rattle.scan_cut.specs.Cut.{input_of, output_of, flop_output, flop_data, source_names, gate_words, line_names, line_of_name, gate_of, position_names, cut_circuit, cut_design}
 use Rattle.scan_cut.proofs.NameLemmas.{line_from_driven, line_is}
 
--- a fact of the names that are used holds of the words of each gate, and of the names of positions
+-- if a fact holds of all names that are used, it holds of the words of each gate and of the names of positions
 module _ (P : ℕ → Type 0) where
   pub each_word : (words : List Word) → All P (map (λ word. word.name) words) → All (λ word. P word.name) words
   each_word [] a = All-nil (λ (word : Word). P word.name)
@@ -50,7 +50,7 @@ gate_count whole (Output n ∷ ss) = gate_count whole ss
 gate_count whole (Drive n kind pins ∷ ss) = ap suc (gate_count whole ss)
 gate_count whole (Flop q d ∷ ss) = gate_count whole ss
 
--- lines, positions and pins together
+-- how many lines, positions and pins there are together
 pub parts_size : (whole ss : List Statement)
     → length (filter_map input_of ss) + length (filter_map flop_output ss) + length (filter_map (gate_of whole) ss) + length (filter_map output_of ss) + length (filter_map flop_data ss)
     + sum_by (λ gate. length gate.pins) (filter_map (gate_of whole) ss)

@@ -15,7 +15,7 @@ use Rattle.bench_reader.specs.Driven.{IsDriven}
 use Rattle.scan_cut.specs.Cut.{gate_words, line_names, cut_circuit, cut_design}
 use Rattle.scan_cut.proofs.FitLemmas.{gate_count, line_count_is, few_parts}
 
--- what is reached is a gate
+-- a line that is reached is a gate's
 reached_gate : (c : Circuit) (line reader : ℕ) → Reaches c line reader → (c.sources ≤ reader) × (reader < line_count c)
 reached_gate c line reader (directly f) = reader_is_gate c line reader f
 reached_gate c line reader (onward {between = between} r f) = reader_is_gate c between reader f

@@ -1,4 +1,4 @@
--- The names of lines: they are the driven ones, each once.
+-- The names of lines: the driven names, each once.
 use Rattle.std.proofs.Common.{◌≡◌, ◌≢◌, ◌∙◌, ℕ, zero, suc, ◌+◌, ◌<◌, ◌≤◌, inl, inr, true, false, List, [], ◌∷◌, ◌++◌, length, get_or, eqb, refl, sym, ap, arith}
 use Rattle.std.specs.Prelude.{map, filter_map, All, AllPairs, Contains, nat_lt, ◌==◌}
 use Rattle.std.specs.List.{position_or_len}
@@ -15,9 +15,9 @@ use Rattle.bench_reader.specs.declared.statement.Statement.TheVariants.{Input, O
 use Rattle.bench_reader.specs.Driven.{driven_numbers}
 use Rattle.scan_cut.specs.Cut.{input_of, flop_output, gate_words, line_names, line_of_name}
 
--- ---- how often a name stands in a list
+-- ---- how often a name occurs in a list
 
--- a list in which no two are equal has each number at most once
+-- a list without equal elements has each number at most once
 pub distinct_counts : (xs : List ℕ) → AllPairs (λ a b. a ≢ b) xs → (x : ℕ) → count_of x xs ≤ 1
 distinct_counts [] a x = omega arith
 distinct_counts (y ∷ ys) a x =
@@ -59,7 +59,7 @@ parts_count x (Drive n kind pins ∷ ss) =
 parts_count x (Flop q d ∷ ss) =
     omega (arith, parts_count x ss, sum_by-cons (λ z. count_if (eqb z x) 1) q.name (filter_map flop_output ss), sum_by-cons (λ z. count_if (eqb z x) 1) q.name (driven_numbers ss))
 
--- a name is a line's as often as it is driven
+-- a name is the name of a line as often as it is driven
 same_count : (x : ℕ) (ss : List Statement) → count_of x (line_names ss) ≡ count_of x (driven_numbers ss)
 unfolding line_names
 same_count x ss =
@@ -93,7 +93,7 @@ first_place xs x (k, h, e) =
       | inr past ↦ true_false (get_or xs k 0 == x) (eq-eqb (get_or xs k 0) x (get_or_default xs k 0 x h ∙ e)) (fails_before_first (λ other. other == x) xs k 0 (omega (arith, past, h)))
     ]
 
--- the line of a name is one, and has the name
+-- the line of a name is a line and has this name
 pub line_is : (ss : List Statement) (x : ℕ) → Contains (line_names ss) x → (line_of_name ss x < length (line_names ss)) × (get_or (line_names ss) (line_of_name ss x) 0 ≡ x)
 line_is ss x m =
     let place = position_or_len (λ other. other == x) (line_names ss) in

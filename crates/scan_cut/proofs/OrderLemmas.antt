@@ -1,4 +1,4 @@
--- Where each gate reads what is known before it, each reads lower lines.
+-- If each gate reads what is known before it, each reads lower lines.
 use Rattle.std.proofs.Common.{◌≡◌, ◌∙◌, ℕ, zero, suc, ◌+◌, ◌-◌, ◌<◌, ◌≤◌, Bool, true, false, List, [], ◌∷◌, ◌++◌, length, get_or, refl, sym, subst, arith, append_assoc, length-append, Option, None, Some}
 use Rattle.std.specs.Prelude.{map, filter_map, All, Contains, slice_get, nat_lt, ◌==◌, if◌then◌else◌}
 use Rattle.std.specs.List.{list_any}
@@ -19,7 +19,7 @@ use Rattle.scan_cut.specs.Cut.{source_names, gate_words, line_names, line_of_nam
 use Rattle.scan_cut.specs.Laws.{ReadsKnown, AreOrdered}
 
 module _ (whole : List Statement) where
-  -- the line of a name that stands among the first lines is one of them
+  -- the line of a name that is a name of the first lines is one of these lines
   line_among : (known more : List ℕ) (name : ℕ) → line_names whole ≡ known ++ more → Contains known name → line_of_name whole name < length known
   line_among known more name e (k, h, at) =
       let p : ℕ → Bool = λ other. other == name in

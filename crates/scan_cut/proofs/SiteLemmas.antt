@@ -15,7 +15,7 @@ use Rattle.bench_reader.proofs.SizeLemmas.{small_statements}
 use Rattle.scan_cut.specs.Cut.{input_of, output_of, flop_output, flop_data, position_names, line_of_name, cut_circuit}
 use Rattle.scan_cut.proofs.FitLemmas.{parts_size}
 
--- lines, positions and pins are no more than the text has bytes
+-- lines, positions and pins together are at most as many as the text has bytes
 parts_within : (text : Text) (n : Netlist) → IsNetlist text n → line_count (cut_circuit n) + length (cut_circuit n).positions + sum_by (λ gate. length gate.pins) (cut_circuit n).gates ≤ NETLIST_LIMIT
 unfolding cut_circuit
 parts_within text n is =

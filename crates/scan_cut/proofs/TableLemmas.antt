@@ -14,7 +14,7 @@ use Rattle.scan_cut.specs.Lines.{AreLines, looked_up_gate}
 use Rattle.scan_cut.proofs.NameLemmas.{line_is}
 use Rattle.scan_cut.proofs.FitLemmas.{positions_used, used_lines}
 
--- the names of lines, as they are collected
+-- the names of lines, while they are collected
 pub lines_are : (ss list : List Statement) (sources names slice : List ℕ) → list ≡ ss → sources ≡ source_names list → names ≡ sources ++ map (λ word. word.name) (gate_words list) → slice ≡ names → slice ≡ line_names ss
 unfolding line_names
 lines_are ss list sources names slice same first more is =
@@ -48,7 +48,7 @@ module _ (whole : List Statement) (count : ℕ) (lines : List ℕ) (are : AreLin
       rw (pins_found pins here, gates_found ss rest) refl
   gates_found (Flop q d ∷ ss) a = gates_found ss (All-tail (Contains (line_names whole)) d.name (flat_map used_numbers ss) a)
 
--- ---- all names that are used are within the table
+-- ---- all names that are used are in the table
 
 module _ (n : Netlist) (o : IsDriven n) where
   used_within : All (λ name. name < length n.names) (flat_map used_numbers n.statements)

@@ -9,11 +9,11 @@ use Rattle.bench_reader.specs.Netlist.{Netlist}
 use Rattle.bench_reader.specs.Reading.{IsNetlist}
 use Rattle.scan_cut.specs.Cut.{source_names, cut_circuit}
 
--- a netlist that was read has fewer than 2^26 fault numbers
+-- the cut of a netlist that was read has fewer than 2^26 fault numbers
 abbrev pub FewNumbers : Type 0
 FewNumbers = (text : Text) (netlist : Netlist) → IsNetlist text netlist → fault_count (cut_circuit netlist) < 2 ^ 26
 
--- Each gate reads names that are known: these, and those that the gates before it drive.
+-- Each gate reads names that are known: those in `known`, and those that the gates before it drive.
 abbrev pub ReadsKnown : List ℕ → List Statement → Type 0
 ReadsKnown known [] = Unit {0}
 ReadsKnown known (Input n ∷ statements) = ReadsKnown known statements
@@ -21,7 +21,7 @@ ReadsKnown known (Output n ∷ statements) = ReadsKnown known statements
 ReadsKnown known (Drive n kind pins ∷ statements) = All (λ pin. Contains known pin.name) pins × ReadsKnown (known ++ n.name ∷ []) statements
 ReadsKnown known (Flop q d ∷ statements) = ReadsKnown known statements
 
--- Each gate reads sources, and what gates before it drive.
+-- Each gate reads only sources and what the gates before it drive.
 abbrev pub AreOrdered : List Statement → Type 0
 AreOrdered statements = ReadsKnown (source_names statements) statements
 

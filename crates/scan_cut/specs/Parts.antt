@@ -5,7 +5,7 @@ use Rattle.bench_reader.specs.Netlist.{Netlist}
 use Rattle.scan_cut.specs.declared.parts.Parts.{Parts}
 use Rattle.scan_cut.specs.Cut.{cut_circuit, cut_design}
 
--- These are the parts of the netlist's cut, which fit together.
+-- The parts are those of the netlist's cut, and they fit together.
 pub record AreParts (n : Netlist) (parts : Parts) : Type 0 where
   pub sources : parts.sources ≡ (cut_circuit n).sources
   pub gates : parts.gates.items ≡ (cut_circuit n).gates

@@ -1,4 +1,4 @@
-//! The cut circuit, with the name of each line.
+//! `cut`: the cut circuit, with the name of each line.
 ghost use Rattle.std.specs.Prelude.{◌≡◌, List, ℕ, Err, IfOk, length};
 ghost use Rattle.net_model.specs.Circuit.{IsCircuit, line_count};
 ghost use Rattle.bench_reader.specs.declared.fault.NetKind.{NetKind};
@@ -12,9 +12,10 @@ use bench_reader::{NetFault, Statements};
 use net_model::{BuildFault, Circuit, Design, Names};
 use std::alloc::Global;
 
-/// The full-scan cut of a netlist: a circuit in which each flip-flop's output is a source and its data pin an observed
-/// position, with the name of each line. Where the gates of the cut form a loop, that loop is answered; else it fails only for
-/// want of memory.
+/// Returns the full-scan cut of a netlist: a circuit in which each flip-flop's output is a source and its data pin is
+/// an observed position, with the name of each line. Returns `Loop` exactly if the gates of the cut form a loop, with
+/// the place of the name that the walk's first gate drives, and the names along the walk. Returns `NoMemory` if memory
+/// is missing, and never `At`.
 pub fn cut(alloc: Global, statements: &Statements) -> Result<Design, NetFault>
     ensures ok { IfOk result (λ design. design ≡ cut_design statements.now) }
     ensures circuit { IfOk result (λ design. IsCircuit design.circuit) }
@@ -34,7 +35,7 @@ pub fn cut(alloc: Global, statements: &Statements) -> Result<Design, NetFault>
     }
 }
 
-// Why there is no cut: the loop of its gates, or want of memory.
+// Returns why there is no cut: the loop of its gates, or missing memory.
 fn cut_fault(
     alloc: Global,
     statements: &Statements,

@@ -6,7 +6,7 @@ pub fn few_numbers()
     ensures { FewNumbers }
 {}
 
-/// Where each gate reads sources and what gates before it drive, the cut has no loop.
+/// If each gate reads only sources and what gates before it drive, the cut has no loop.
 pub fn ordered_has_no_loop()
     ensures { OrderedHasNoLoop }
 {}

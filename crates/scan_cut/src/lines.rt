@@ -1,4 +1,4 @@
-//! The lines of the cut: which names are lines, and which line each name is.
+//! The lines of the cut: which names are those of lines, and which line each name is.
 ghost use Rattle.std.specs.Prelude.{◌≡◌, ◌≢◌, ◌<◌, ◌^◌, ◌++◌, map, length, All, AllPairs, IfOk, OnOk};
 ghost use Rattle.scan_cut.specs.Cut.{input_of, output_of, flop_output, flop_data, gate_driven_word, source_names, gate_words, position_names};
 ghost use Rattle.scan_cut.specs.Lines.{AreLines};
@@ -42,7 +42,7 @@ fn flop_data(statement: &Statement) -> Option<u32>
     }
 }
 
-// The word that a gate drives.
+// Returns the word that a gate drives.
 pub(crate) fn gate_word(statement: &Statement) -> Option<Word>
     ensures { result ≡ gate_driven_word statement.now }
 {
@@ -52,7 +52,7 @@ pub(crate) fn gate_word(statement: &Statement) -> Option<Word>
     }
 }
 
-// The names of the sources: the inputs, then the flip-flops' outputs.
+// Returns the names of the sources: the inputs, then the flip-flops' outputs.
 pub(crate) fn source_names(alloc: Global, statements: &[Statement]) -> Result<Vec<u32>, AllocError>
     ensures { IfOk result (λ names. names.items ≡ source_names statements.now) }
 {
@@ -76,7 +76,7 @@ pub(crate) fn add_gate_names(
     )
 }
 
-// The names of the positions: the outputs, then the flip-flops' data pins.
+// Returns the names of the positions: the outputs, then the flip-flops' data pins.
 pub(crate) fn position_names(
     alloc: Global,
     statements: &[Statement],
@@ -89,7 +89,7 @@ pub(crate) fn position_names(
         .collect(alloc)
 }
 
-// The line of each name that is a line's, by name.
+// Returns the line of each name that is the name of a line, by name.
 pub(crate) fn lines_by_name(
     alloc: Global,
     count: u32,

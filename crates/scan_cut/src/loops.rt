@@ -1,4 +1,4 @@
-//! The loop of a netlist, where its gates form one.
+//! A loop of the gates, as the place of a name and the names along its walk.
 ghost use Rattle.std.specs.Prelude.{◌≡◌, ◌<◌, map, length, slice_index_or, slice_get, [], All, IfOk};
 ghost use Rattle.net_model.specs.LoopWalk.{IsLoopWalk};
 ghost use Rattle.scan_cut.specs.Cut.{gate_words, cut_circuit, cut_design, IsNetlistLoop};
@@ -8,7 +8,7 @@ use bench_reader::{Place, Statement, Statements, Word};
 use net_model::Names;
 use std::alloc::{AllocError, Global};
 
-// The place of the name that the first gate of a walk drives, and the names along the walk.
+// Returns the place of the name that the first gate of a walk drives, and the names along the walk.
 pub(crate) fn loop_of(
     alloc: Global,
     statements: &Statements,
@@ -28,14 +28,13 @@ pub(crate) fn loop_of(
     Ok((word.place, names_along(alloc, names, walk)?))
 }
 
-// The word that a gate drives.
+// Returns the word that the gate with number `gate` drives.
 fn word_of_gate(statements: &[Statement], gate: usize) -> Option<Word>
     ensures { result ≡ slice_get (gate_words statements.now) gate }
 {
     statements.iter().filter_map(gate_word).nth(gate)
 }
 
-// The names of some lines.
 fn names_along(alloc: Global, names: &Names, lines: &[u32]) -> Result<Names, AllocError>
     requires few { length lines.now < 4294967295 }
     requires inside { All (λ line. line < length names.now) lines.now }

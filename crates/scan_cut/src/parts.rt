@@ -10,7 +10,7 @@ use bench_reader::{Statement, Statements, Word};
 use net_model::{Gate, Names, Pins};
 use std::alloc::{AllocError, Global};
 
-/// What a design is built of.
+/// The parts from which a design is built.
 #[derive(Drop)]
 pub(crate) struct Parts {
     pub(crate) gates: Vec<Gate>,
@@ -19,7 +19,7 @@ pub(crate) struct Parts {
     pub(crate) names: Names,
 }
 
-/// The parts of the cut of a netlist.
+/// Returns the parts of the cut of a netlist.
 pub(crate) fn collect_parts(alloc: Global, statements: &Statements) -> Result<Parts, AllocError>
     ensures { IfOk result (AreParts statements.now) }
 {
@@ -30,7 +30,8 @@ pub(crate) fn collect_parts(alloc: Global, statements: &Statements) -> Result<Pa
     parts_of(alloc, statements, sources, line_names.as_slice())
 }
 
-// The parts, where these are the numbers of the lines' names, and the first ones are sources.
+// Returns the parts of the cut. `numbers` are the numbers of the lines' names; the first `sources` of them are those of
+// sources.
 fn parts_of(
     alloc: Global,
     statements: &Statements,
@@ -53,7 +54,7 @@ fn parts_of(
     })
 }
 
-// The gates, whose pins are the lines of their names.
+// Returns the gates; their pins are the lines of their names.
 fn gates(alloc: Global, statements: &[Statement], lines: &[u32]) -> Result<Vec<Gate>, AllocError>
     requires { All (λ s. All (λ name. name < length lines.now) (used_numbers s)) statements.now }
     ensures { IfOk result (λ gates. gates.items ≡ filter_map (looked_up_gate lines.now) statements.now) }
@@ -68,7 +69,7 @@ fn gates(alloc: Global, statements: &[Statement], lines: &[u32]) -> Result<Vec<G
     Ok(gates)
 }
 
-// The lines of some words.
+// Returns the lines of words.
 fn pins(alloc: Global, words: &[Word], lines: &[u32]) -> Result<Pins, AllocError>
     requires { All (λ word. word.name < length lines.now) words.now }
     ensures { IfOk result (λ pins. pins ≡ map (λ word. slice_index lines.now word.name) words.now) }
@@ -80,7 +81,7 @@ fn pins(alloc: Global, words: &[Word], lines: &[u32]) -> Result<Pins, AllocError
     Ok(pins)
 }
 
-// The lines of some names.
+// Returns the lines of names.
 fn looked_up(alloc: Global, names: &[u32], lines: &[u32]) -> Result<Vec<u32>, AllocError>
     requires { All (λ name. name < length lines.now) names.now }
     ensures { IfOk result (λ found. found.items ≡ map (λ name. slice_index lines.now name) names.now) }
@@ -91,7 +92,7 @@ fn looked_up(alloc: Global, names: &[u32], lines: &[u32]) -> Result<Vec<u32>, Al
         .collect(alloc)
 }
 
-// The texts of some names.
+// Returns the texts of the names with these numbers.
 fn names(alloc: Global, statements: &Statements, numbers: &[u32]) -> Result<Names, AllocError>
     requires few { length numbers.now < 4294967295 }
     requires named { All (λ number. number < length statements.now.names) numbers.now }

@@ -11,7 +11,7 @@ line_by : (b : Bool) (line : ℕ → List ℕ) (number : ℕ) (before : List ℕ
 line_by true line number before = ap (λ (xs : List ℕ). before ++ xs) (sym (append-nil (line number)))
 line_by false line number before = sym (append-nil before)
 
--- the line of one number more is written, where its answer differs
+-- one more line is written if the number's answer differs
 pub lines_more : (differs : ℕ → Bool) (line : ℕ → List ℕ) (number : ℕ) (initial before after : List ℕ) → 1 ≤ number → before ≡ initial ++ flat_map line (filter differs (range_with_len 1 (number - 1)))
     → after ≡ cond (differs number) (before ++ line number) before → after ≡ initial ++ flat_map line (filter differs (range_with_len 1 ((number + 1) - 1)))
 lines_more differs line number initial before after low is next =

@@ -122,7 +122,7 @@ text_set answers texts place text are inside is = record {
   ];
 }
 
--- what is appended of a text that is there is the text of the answer
+-- what a text that is there appends is the text of the answer
 pub written_is : (answers : List (List Bool)) (texts : List (Option (String Global))) (place : ℕ) (held : Option (String Global)) (before after : List ℕ) → AreTextsOf answers texts → IsSome (get_or texts place None) → held ≡ get_or texts place None → IfSome held (λ own. after ≡ before ++ string_bytes own) → after ≡ before ++ bits_text (row_at answers place)
 written_is answers texts place None before after are some is pushed = absurd (false≢true (subst (λ (o : Option (String Global)). IsSome o) (sym is) some))
 written_is answers texts place (Some text) before after are some is pushed = pushed ∙ ap (λ (bytes : List ℕ). before ++ bytes) (are.right place text (sym is))

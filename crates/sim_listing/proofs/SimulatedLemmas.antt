@@ -12,7 +12,7 @@ use Rattle.sim_listing.specs.LaneAnswers.{AreEqualRoots, HaveEqualLeads}
 use Rattle.text_fields.specs.Fields.{Text}
 use Rattle.sim_listing.specs.SimText.{vector_text, IsSimTextFrom}
 
--- the part of one
+-- the range of one vector
 one_at : (vectors : List (List Bool)) (number : ℕ) → number < length vectors → slice_range vectors number (number + 1) ≡ get_or vectors number [] ∷ []
 one_at vectors number inside =
     let one : (number + 1) - number ≡ 0 + 1 = omega arith in
@@ -27,7 +27,7 @@ lane_known n places vectors first end roots wide numbered =
     let own = λ (v : List Bool). length v ≡ n.circuit.sources in
     record { roots = roots; widths = subst (λ (vs : List (List Bool)). All own vs) (sym numbered) (All-take own _ _ (All-drop own first vectors wide)) }
 
--- the lines of one of them are its text
+-- the lines of one of these vectors are its text
 pub lane_is : (n : AnswerNumbers) (vectors : List (List Bool)) (first count number : ℕ) (text : Text) → IsCircuit n.circuit → numbered_vectors n ≡ slice_range vectors first (first + count) → first + count ≤ length vectors → first ≤ number → number < first + count
     → ((row : List (List Bool)) → IsAnswerRow n.circuit (vector_in n (number - first)) row → text ≡ vector_text row number) → IsSimTextFrom n.circuit number (slice_range vectors number (number + 1)) text
 lane_is n vectors first count number text is numbered within from below own =

@@ -12,7 +12,7 @@ use Rattle.answer_numbers.specs.AnswerNumbers.{AnswerNumbers, numbered_vectors, 
 use Rattle.answer_numbers.specs.Distinct.{distinct_answers}
 use Rattle.sim_listing.specs.declared.lines.LaneAnswers.{LaneAnswers}
 
--- Each fault number is equal to the root at its place.
+-- Each fault number has a place, and is equal to the root there, which is a fault number of the circuit.
 pub record AreEqualRoots (c : Circuit) (roots places : List ℕ) : Type 0 where
   pub circuit : IsCircuit c
   pub known : All (λ root. root < fault_count c) roots
@@ -22,7 +22,7 @@ pub record AreEqualRoots (c : Circuit) (roots places : List ℕ) : Type 0 where
   pub within : (number : ℕ) → number < length places → slice_index places number < length roots
   pub equal : (number : ℕ) → number < length places → AreEqual c (lead_fault c roots (slice_index places number)) (fault_numbered c number)
 
--- Each is so to the lead at its place.
+-- `AreEqualRoots` holds with the leads as roots, and the numbered vectors are as wide as the circuit has sources.
 pub record HaveEqualLeads (n : AnswerNumbers) (places : List ℕ) : Type 0 where
   pub roots : AreEqualRoots n.circuit n.leads places
   pub widths : All (λ v. length v ≡ n.circuit.sources) (numbered_vectors n)
@@ -40,7 +40,7 @@ IsLaneRow l row = IsAnswerRow l.numbers.now.circuit (vector_in l.numbers.now l.l
 abbrev pub lane_answers : LaneAnswers → List (List Bool) → List (List Bool)
 lane_answers l row = distinct_answers (map (answer_in row) l.numbers.now.leads)
 
--- The number is the place of the answer.
+-- The answer is at `place` among the answers.
 pub record IsAnswerPlace (answers : List (List Bool)) (answer : List Bool) (place : ℕ) : Type 0 where
   pub within : place < length answers
   pub own : row_at answers place ≡ answer
@@ -49,11 +49,11 @@ pub record IsAnswerPlace (answers : List (List Bool)) (answer : List Bool) (plac
 abbrev pub IsNumberPlace : LaneAnswers → ℕ → ℕ → Type 0
 IsNumberPlace l number place = (row : List (List Bool)) → IsLaneRow l row → IsAnswerPlace (lane_answers l row) (answer_in row number) place
 
--- Each text that is there is that of the answer at its place.
+-- There is room for a text of each answer, and each text that is there is that of the answer at its place.
 pub record AreTextsOf (answers : List (List Bool)) (texts : List (Option (String Global))) : Type 0 where
   pub one_each : length texts ≡ length answers
   pub right : (place : ℕ) (text : String Global) → slice_index_or texts place None ≡ Some text → string_bytes text ≡ bits_text (row_at answers place)
 
--- So are the texts of the different answers to the lane's vector.
+-- `AreTextsOf` holds for the different answers to the lane's vector.
 abbrev pub AreLaneTexts : LaneAnswers → List (Option (String Global)) → Type 0
 AreLaneTexts l texts = (row : List (List Bool)) → IsLaneRow l row → AreTextsOf (lane_answers l row) texts

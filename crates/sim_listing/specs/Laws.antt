@@ -4,13 +4,13 @@ use Rattle.net_model.specs.Circuit.{Circuit, IsCircuit}
 use Rattle.text_fields.specs.Fields.{Text}
 use Rattle.sim_listing.specs.SimText.{IsSimTextFrom}
 
--- There is a text, and no other.
+-- There is exactly one text.
 pub record HasOneText (c : Circuit) (first : ℕ) (vectors : List (List Bool)) : Type 0 where
   pub text : Text
   pub is : IsSimTextFrom c first vectors text
   pub only : (other : Text) → IsSimTextFrom c first vectors other → other ≡ text
 
--- each list of vectors has one text
+-- each list of vectors has exactly one text
 abbrev pub OneTextEach : Type 0
 OneTextEach = (c : Circuit) (first : ℕ) (vectors : List (List Bool)) → IsCircuit c → HasOneText c first vectors
 

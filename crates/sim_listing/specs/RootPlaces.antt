@@ -1,7 +1,8 @@
 -- The roots of numbers, and their places.
 use Rattle.std.specs.Prelude.{◌≡◌, ℕ, ◌<◌, ◌≤◌, List, All, length, slice_index}
 
--- Of the first numbers, so many, these are their own roots, and each has its place.
+-- Of the first `count` numbers, each that is its own root is at its place among the roots, and the roots are some of
+-- these numbers.
 pub record AreOwnPlaces (all : List ℕ) (count : ℕ) (roots places : List ℕ) : Type 0 where
   pub one_each : length places ≡ count
   pub few : length roots ≤ count
@@ -9,7 +10,7 @@ pub record AreOwnPlaces (all : List ℕ) (count : ℕ) (roots places : List ℕ)
   pub within : (number : ℕ) → number < count → slice_index all number ≡ number → slice_index places number < length roots
   pub own : (number : ℕ) → number < count → slice_index all number ≡ number → slice_index roots (slice_index places number) ≡ number
 
--- These are roots of the numbers, and each number has the place of its root.
+-- The roots are some of the numbers, and each number has the place of its root.
 pub record AreRootPlaces (all roots places : List ℕ) : Type 0 where
   pub one_each : length places ≡ length all
   pub few : length roots ≤ length all

@@ -1,15 +1,15 @@
--- What a circuit answers to vectors, whose texts are made one at a time.
+-- What a circuit answers to vectors, as texts that are made one at a time.
 use Rattle.std.specs.Prelude.{◌≡◌, ℕ, ◌+◌, ◌<◌, ◌≤◌, Bool, List}
 use Rattle.net_model.specs.Circuit.{Circuit}
 
--- a circuit, the vectors, and which of them were simulated last: from the first one on, so many
+-- a circuit, the vectors, and which of them were simulated last: `count` vectors that begin at `first`
 pub record VectorTexts : Type 0 where
   pub circuit : Circuit
   pub vectors : List (List Bool)
   pub first : ℕ
   pub count : ℕ
 
--- those of which none was simulated
+-- a circuit and vectors, with none simulated
 abbrev pub texts_before : Circuit → List (List Bool) → VectorTexts
 texts_before circuit vectors = record { circuit = circuit; vectors = vectors; first = 0; count = 0 }
 

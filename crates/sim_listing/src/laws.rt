@@ -2,7 +2,7 @@
 
 ghost use Rattle.sim_listing.specs.Laws.{OneTextEach, BlocksMakeTheList};
 
-/// Each list of vectors has one text.
+/// Each list of vectors has exactly one text.
 pub fn one_text_each()
     ensures { OneTextEach }
 {}

@@ -1,4 +1,4 @@
-//! The text of a simulation, a vector at a time.
+//! The text of a simulation, one vector at a time.
 #![tactic(auto)]
 
 mod laws;

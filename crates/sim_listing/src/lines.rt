@@ -1,4 +1,4 @@
-//! The lines of a vector.
+//! The lines of one vector, from the numbers of the roots' answers.
 
 ghost use Rattle.std.specs.Prelude.{◌≡◌, ◌++◌, ◌<◌, ◌^◌, Bool, List, None, IfOk, IsSome, OnOk, flat_map, length, slice_index, slice_index_or, if◌then◌else◌};
 ghost use Rattle.std.specs.String.{string_bytes};
@@ -21,7 +21,7 @@ pub(crate) struct LaneAnswers<'a, 'n> {
 }
 
 impl LaneAnswers<'_, '_> {
-    /// Appends the lines of the vector with this number. Nothing is said of the text after an error.
+    /// Appends the lines of the vector with this number. Nothing is promised about the text after an error.
     #[tactic(auto, unfolding(crate::specs::SimText::vector_text))]
     pub(crate) fn push_vector(
         &self,
@@ -75,7 +75,7 @@ impl LaneAnswers<'_, '_> {
         Ok(())
     }
 
-    // Appends the line of a fault, where its answer differs.
+    // Appends the line of a fault if its answer differs.
     fn push_if_differs(
         &self,
         alloc: Global,
@@ -136,7 +136,7 @@ impl LaneAnswers<'_, '_> {
         Ok(())
     }
 
-    // Writes a number's answer out at its place, if it isn't there.
+    // Writes the text of a number's answer at its place, if there is none yet.
     fn write_out(
         &self,
         alloc: Global,
@@ -158,7 +158,7 @@ impl LaneAnswers<'_, '_> {
         Ok(())
     }
 
-    // Writes a number's answer out at its place.
+    // Writes the text of a number's answer at its place.
     fn fill(
         &self,
         alloc: Global,
@@ -180,7 +180,7 @@ impl LaneAnswers<'_, '_> {
         Ok(())
     }
 
-    // The place of the lead that a number is equal to.
+    // Returns the place of the lead that the number is equal to.
     fn lead(&self, number: u32) -> usize
         requires { number < length self.now.places.now }
         ensures { result ≡ slice_index self.now.places.now number }
@@ -188,7 +188,7 @@ impl LaneAnswers<'_, '_> {
         self.places[number as usize] as usize
     }
 
-    // The place of a number's answer among the different ones.
+    // Returns the place of the number's answer among the different ones.
     fn place(&self, number: u32) -> u32
         requires lane { IsKnownLane self.now }
         requires number { number < length self.now.places.now }
@@ -197,7 +197,6 @@ impl LaneAnswers<'_, '_> {
         self.numbers.number(self.lane, self.lead(number))
     }
 
-    // A number's answer.
     fn answer(&self, alloc: Global, number: u32) -> Result<Answer, AllocError>
         requires lane { IsKnownLane self.now }
         requires number { number < length self.now.places.now }
@@ -207,7 +206,7 @@ impl LaneAnswers<'_, '_> {
         Ok(own)
     }
 
-    // Whether a number's answer differs from that of number 0.
+    // Returns whether the number's answer differs from that of number 0.
     fn differs(&self, number: u32) -> bool
         requires lane { IsKnownLane self.now }
         requires number { number < length self.now.places.now }

@@ -1,4 +1,4 @@
-//! The roots of the faults, which alone are simulated.
+//! The roots of the faults, the only faults that are simulated.
 
 ghost use Rattle.std.specs.Prelude.{◌≡◌, ◌<◌, ◌^◌, ◌++◌, ◌∷◌, [], All, IfOk, OnOk, length, map, slice_index, if◌then◌else◌};
 ghost use Rattle.fault_collapse.specs.ForestFields.{AreForestFields};
@@ -15,7 +15,8 @@ pub struct RootPlaces {
     pub places: Vec<u32>,
 }
 
-/// The roots of a circuit's faults: of the faults that collapse into one, the one that is simulated.
+/// Returns the roots of a circuit's faults, and for each fault number the place of its root. Of the faults that
+/// collapse into one, only the root is simulated.
 pub fn root_places(alloc: Global, subject: &Subject) -> Result<RootPlaces, AllocError>
     ensures { IfOk result (λ found. AreEqualRoots subject.now found.roots.items found.places.items) }
 {
@@ -23,7 +24,7 @@ pub fn root_places(alloc: Global, subject: &Subject) -> Result<RootPlaces, Alloc
     Ok(found)
 }
 
-// The roots of the numbers, and their places.
+// Returns the roots of the numbers, and for each number the place of its root.
 fn forest_places(alloc: Global, forest: &Forest) -> Result<RootPlaces, AllocError>
     requires { AreForestFields forest.now }
     ensures { IfOk result (λ found. AreRootPlaces forest.now.roots found.roots.items found.places.items) }
@@ -34,7 +35,7 @@ fn forest_places(alloc: Global, forest: &Forest) -> Result<RootPlaces, AllocErro
     Ok(RootPlaces { roots, places })
 }
 
-// The numbers that are their own roots, and their places. The place of another number is that of the next root.
+// Returns the numbers that are their own roots, and their places. A number that isn't has the place of the next root.
 fn own_roots(alloc: Global, all: &[u32]) -> Result<RootPlaces, AllocError>
     requires { length all.now < 2 ^ 32 }
     ensures { IfOk result (λ found. AreOwnPlaces all.now (length all.now) found.roots.items found.places.items) }
@@ -50,7 +51,7 @@ fn own_roots(alloc: Global, all: &[u32]) -> Result<RootPlaces, AllocError>
 }
 
 impl RootPlaces {
-    // Puts a number behind the others.
+    // Adds the next number.
     fn add(&mut self, number: u32, is_root: bool) -> Result<(), AllocError>
         requires { length self.old.roots.items < 2 ^ 32 }
         ensures roots { OnOk result (self.new.roots.items ≡ (if is_root then self.old.roots.items ++ number ∷ [] else self.old.roots.items)) }
@@ -64,7 +65,7 @@ impl RootPlaces {
     }
 }
 
-// For each number the place of its root.
+// Returns for each number the place of its root.
 fn places_of(alloc: Global, all: &[u32], own: &[u32]) -> Result<Vec<u32>, AllocError>
     requires { All (λ root. root < length own.now) all.now }
     ensures { IfOk result (λ places. places.items ≡ map (slice_index own.now) all.now) }

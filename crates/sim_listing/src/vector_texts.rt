@@ -16,16 +16,15 @@ use std::marker::Model;
 use table_dicts::fill_block;
 use word_sim::{Block, LANES};
 
-/// What a circuit answers to vectors, whose texts are made one at a time.
-///
-/// As many vectors as there are lanes are simulated together, once the first of them is asked for.
+/// What a circuit answers to vectors, as texts that are made one at a time. If a vector isn't among those that were
+/// simulated last, it is simulated together with the vectors after it, at most as many as there are lanes.
 #[derive(Drop)]
 pub struct VectorTexts<'a> {
     numbers: AnswerNumbers<'a>,
     places: &'a [u32],
     vectors: &'a [Vector],
     block: Block,
-    // the number of the first vector that was simulated last, and how many these are
+    // the number of the first of the vectors that were simulated last, and how many these are
     first: usize,
     count: u32,
 }
@@ -42,7 +41,7 @@ impl<'a> Model for VectorTexts<'a> {
 }
 
 impl<'a> VectorTexts<'a> {
-    /// The texts of these vectors, before any is made. `roots` has the roots of the circuit's faults.
+    /// Returns the texts of these vectors, with none simulated yet. `roots` has the roots of the circuit's faults.
     pub fn new(
         alloc: Global,
         subject: &'a Subject<'a>,
@@ -68,7 +67,8 @@ impl<'a> VectorTexts<'a> {
         })
     }
 
-    /// The lines of the vector with this number.
+    /// Returns the lines of the vector with this number. After an error the circuit and the vectors are the same, and
+    /// `text` may be called again.
     pub fn text(&mut self, alloc: Global, number: usize) -> Result<String, AllocError>
         requires { number < length self.old.vectors }
         ensures same { HaveSameVectors self.old self.new }
@@ -79,7 +79,7 @@ impl<'a> VectorTexts<'a> {
         Ok(text)
     }
 
-    // Simulates the vector with this number, if it isn't among those that were simulated last.
+    // Simulates the vector with this number if it isn't among those that were simulated last.
     fn reach(&mut self, alloc: Global, number: usize) -> Result<(), AllocError>
         requires { number < length self.old.vectors }
         ensures same { HaveSameVectors self.old self.new }
@@ -91,14 +91,14 @@ impl<'a> VectorTexts<'a> {
         Ok(())
     }
 
-    // Whether the vector with this number is among those that were simulated last.
+    // Returns whether the vector with this number is among those that were simulated last.
     fn has(&self, number: usize) -> bool
         ensures { IsTrue result ↔ HasSimulated self.now number }
     {
         is_among(self.first, self.count, number)
     }
 
-    // Simulates the vectors from this number on, as many as there are lanes.
+    // Simulates the vectors that begin at this number, at most as many as there are lanes.
     fn simulate(&mut self, alloc: Global, number: usize) -> Result<(), AllocError>
         requires { number < length self.old.vectors }
         ensures same { HaveSameVectors self.old self.new }
@@ -112,7 +112,7 @@ impl<'a> VectorTexts<'a> {
         Ok(())
     }
 
-    // The lines of a vector that was simulated.
+    // Returns the lines of a vector that was simulated.
     fn lane_text(&self, alloc: Global, number: usize) -> Result<String, AllocError>
         requires { HasSimulated self.now number }
         ensures { IfOk result (λ text. IsSimTextFrom self.now.circuit number (slice_range self.now.vectors number (number + 1)) (string_bytes text)) }
@@ -128,14 +128,15 @@ impl<'a> VectorTexts<'a> {
     }
 }
 
-// Whether a number is one of so many from the first one on.
+// Returns whether `number` is one of `count` numbers that begin at `first`.
 fn is_among(first: usize, count: u32, number: usize) -> bool
     ensures { result ≡ (nat_le first number && nat_lt (number - first) count) }
 {
     first <= number && number - first < count as usize
 }
 
-// Makes the vectors from the first one on those of a block, as many as there are lanes, and says how many they are.
+// Fills the block with the vectors that begin at `first`, at most as many as there are lanes, and returns how many they
+// are.
 fn fill_from(block: &mut Block, vectors: &[Vector], first: usize) -> u32
     requires widths { All (λ v. length v ≡ block.old.sources) vectors.now }
     requires first { first < length vectors.now }
@@ -149,7 +150,7 @@ fn fill_from(block: &mut Block, vectors: &[Vector], first: usize) -> u32
     count as u32
 }
 
-// The lane of a number among so many from the first one on.
+// Returns the lane of a number among `count` numbers that begin at `first`.
 fn lane_of(first: usize, count: u32, number: usize) -> u32
     requires from { first ≤ number }
     requires below { number < first + count }

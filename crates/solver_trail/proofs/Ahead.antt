@@ -1,4 +1,4 @@
--- The list of a literal, gone through watch by watch.
+-- The list of a literal, visited watch by watch.
 use Rattle.std.proofs.Common.{◌≡◌, ◌≢◌, ◌∙◌, inl, ℕ, ◌<◌, ◌≤◌, List, [], ◌∷◌, ◌++◌, length, refl, sym, ap, subst, arith, rules, append_assoc, length-append}
 use Rattle.std.specs.Prelude.{Option, None, Some, IfSome, set}
 use Rattle.std.proofs.lemmas.List.{set-get_or}
@@ -28,7 +28,6 @@ module _ {w : Watches} {lit : Literal} {last : Option ℕ} (h : IsAhead w lit la
       by (Some j) ends = chain_after (next_watches w) (head_of w.firsts.items lit) ends.0 j h.rest
           (subst (IsChain (next_watches w) (head_of w.firsts.items lit)) (h.parts ∙ (ap (λ xs. xs ++ h.rest) ends.1 ∙ append_assoc ends.0 (j ∷ []) h.rest)) h.list.chain)
 
-  -- the last watch that stays is a watch
   pub last_within : IfSome last (λ at. at < length (watched_literals w))
   last_within = by last h.ends
     where
@@ -36,7 +35,6 @@ module _ {w : Watches} {lit : Literal} {last : Option ℕ} (h : IsAhead w lit la
       by None none = search rules
       by (Some j) ends = (in_list j (among_left h.stay h.rest j (subst (λ xs. IsWatchAmong xs j) (sym ends.1) (among_right ends.0 (j ∷ []) j (inl refl))))).0
 
-  -- nothing is ahead
   pub none_ahead : link_after w lit last ≡ None → h.rest ≡ []
   none_ahead e = by h.rest refl chain_ahead
     where
@@ -60,7 +58,7 @@ module _ {w : Watches} {lit : Literal} {last : Option ℕ} (h : IsAhead w lit la
           let o = in_list watch (among_right h.stay h.rest watch (subst (λ xs. IsWatchAmong xs watch) (sym parts) (inl refl))) in
           record { later = later; rest = parts; within = o.0; is = same_by_code (watched (watched_literals w) watch) lit o.1 }
 
-  -- the first one stays
+  -- the first one stays in the list
   pub stays : {watch : ℕ} → IsAtWatch h watch → (a : IsAhead w lit (Some watch)) × (h.rest ≡ watch ∷ a.rest)
   stays {watch = watch} at = (
     record {

@@ -1,4 +1,4 @@
--- Set literals that are unset from the end.
+-- Set literals are unset from the end.
 use Rattle.std.proofs.Common.{◌≡◌, ◌∙◌, ℕ, zero, suc, ◌+◌, ◌-◌, ◌<◌, ◌≤◌, List, [], ◌∷◌, ◌++◌, length, take, drop, get_or, Option, None, refl, sym, ap, subst, arith}
 use Rattle.std.specs.Prelude.{All, set}
 use Rattle.std.specs.List.{HoldsAt}
@@ -12,7 +12,7 @@ use Rattle.solver_trail.specs.StackFields.{ArePlaced}
 use Rattle.solver_trail.proofs.Levels.{AreLevels-pop, follows_bounds, level_between}
 use Rattle.solver_trail.proofs.Placed.{placed_pop}
 
--- a list with at least one element, as all but the last and the last one
+-- a list with at least one element is all but the last, and the last one
 all_but_last : (entries : List SetLiteral) → 0 < length entries
     → entries ≡ take (length entries - 1) entries ++ get_or entries (length entries - 1) no_literal ∷ []
 all_but_last entries some =
@@ -25,7 +25,7 @@ pub unset_last_placed : {variables : ℕ} {literals : List Literal} {entries : L
     → ArePlaced variables (literals_of ys) ys (set slots e.literal.variable None)
 unset_last_placed {variables = variables} {literals = literals} ys e {slots = slots} p is = placed_pop ys e (subst (λ es. ArePlaced variables literals es slots) is p)
 
--- what holds while literals above a level are unset
+-- What holds while literals of levels above `level` are unset.
 pub record IsBackTo (old : List SetLiteral) (level : ℕ) (entries : List SetLiteral) : Type 0 where
   pub prefix : entries ≡ take (length entries) old
   pub within : length entries ≤ length old

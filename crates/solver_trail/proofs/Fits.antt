@@ -1,4 +1,4 @@
--- How a trail goes on fitting a pool.
+-- How a trail still fits a pool after a step.
 use Rattle.std.proofs.Common.{◌≡◌, ◌≢◌, ◌∙◌, inl, inr, ℕ, ◌+◌, ◌*◌, ◌/◌, ◌<◌, ◌≤◌, List, [], ◌∷◌, ◌++◌, length, take, get_or, sym, ap, subst, arith, length-append}
 use Rattle.std.specs.Prelude.{Some, Contains}
 use Rattle.std.proofs.lemmas.List.{take-map, take-take, get_or-take, length-take, length-take-le, get_or_append_left, get_or_push}
@@ -171,7 +171,7 @@ module _ {t : TrailState} {clauses : List Clause} (fits : Fits t clauses) (numbe
             (λ c e. subst (λ c. AreWatched c second first) (here (2 * n + 1) (omega arith) c e) (record { first = w.second; second = w.first; apart = λ v. w.apart (sym v) }));
       }
 
--- the new watches' literals aren't false by the visited ones
+-- the literals of the new watches aren't false by the visited ones
 pub kept_two : (literals : List SetLiteral) (visited n : ℕ) (watched : List Literal) → length watched ≡ 2 * n → (first second : Literal)
     → ((j : ℕ) (d : SetLiteral) → j < visited → (get_or literals j d).literal ≢ opposite first)
     → ((j : ℕ) (d : SetLiteral) → j < visited → (get_or literals j d).literal ≢ opposite second) → AreKept literals visited visited watched

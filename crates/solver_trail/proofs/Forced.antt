@@ -42,7 +42,6 @@ held_more {a = a} step l there =
 
 -- ---- reasons
 
--- the literals before a place
 take_before : (literals : List SetLiteral) (s : SetLiteral) (k : ℕ) → k ≤ length literals
     → take k (literals_of (literals ++ s ∷ [])) ≡ take k (literals_of literals)
 take_before literals s k le =
@@ -75,12 +74,12 @@ reasons_push {literals = literals} r s is_attached is_reason = record {
 
 -- ---- a literal that a clause forces
 
--- All literals of the clause but this one, which is unset, are false.
+-- All other literals of the clause are false, and this one is unset.
 pub record IsUnit (a : Assignment) (clause : Clause) (l : Literal) : Type 0 where
   pub inside : Contains clause l
   pub others : (m : Literal) → Contains clause m → m ≢ l → Contains (assigned_literals a) (opposite m)
 
--- The assignment with one more literal, which a clause forces.
+-- The assignment has one more literal, which a clause forces.
 pub record IsForced (a b : Assignment) (l : Literal) (level number : ℕ) : Type 0 where
   pub present : level ≡ a.level
   pub is : b ≡ record { variables = a.variables; literals = a.literals ++ record { literal = l; level = level; reason = Some number } ∷ []; level = level }
@@ -113,7 +112,6 @@ module _ {a b : Assignment} {l : Literal} {level number : ℕ} (f : IsForced a b
       some_is : (n : ℕ) → ◌≡◌ {A = Option ℕ} (Some number) (Some n) → number ≡ n
       some_is n e = cc
 
--- an undetermined literal's variable is unset
 pub undetermined_unset : (a : Assignment) (l : Literal) → IsUndetermined (assigned_literals a) l → IsUnset a l.variable
 undetermined_unset a l o k d h e = elim (same_or_opposite (get_or a.literals k d).literal l e) [
   | inl same ↦ o.not_held (held_at a.literals k d l h same)
@@ -122,7 +120,7 @@ undetermined_unset a l o k d h e = elim (same_or_opposite (get_or a.literals k d
 
 -- ---- what is found at a clause
 
--- a literal that isn't known to be false
+-- a literal that isn't reported to be false
 pub not_false : (a : Assignment) (l : Literal) (value : Option Bool) → IsTrail a → IsValueOf a l value → value ≢ Some false
     → ¬ Contains (assigned_literals a) (opposite l)
 not_false a l None trail v ne = v.opposite_not_held

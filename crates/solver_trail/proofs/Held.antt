@@ -14,7 +14,7 @@ literal_at entries k d e h = get_or-map (λ (s : SetLiteral). s.literal) entries
 pub length-literals_of : (entries : List SetLiteral) → length (literals_of entries) ≡ length entries
 length-literals_of entries = length-map entries (λ (s : SetLiteral). s.literal)
 
--- where a held literal stands
+-- where a set literal is
 pub place_of : (entries : List SetLiteral) (l : Literal) → Contains (literals_of entries) l
     → (k : ℕ) × (k < length entries) × ((d : SetLiteral) → (get_or entries k d).literal ≡ l)
 place_of entries l h =
@@ -27,14 +27,13 @@ held_at entries k d l h e =
     let within : k < length (literals_of entries) = omega (arith, h, length-literals_of entries) in
     (k, within, literal_at entries k d l h ∙ e)
 
--- one more at the end
+-- one more literal at the end
 pub at_push_before : (entries : List SetLiteral) (s d : SetLiteral) (k : ℕ) → k < length entries → get_or (entries ++ s ∷ []) k d ≡ get_or entries k d
 at_push_before entries s d k h = get_or_append_left entries (s ∷ []) d k h
 
 pub at_push_end : (entries : List SetLiteral) (s d : SetLiteral) (k : ℕ) → k ≡ length entries → get_or (entries ++ s ∷ []) k d ≡ s
 at_push_end entries s d k e = get_or_push entries s d k (sym e)
 
--- a literal and its opposite are not both held
 pub not_both : (a : Assignment) (l : Literal) → IsTrail a → Contains (assigned_literals a) l → Contains (assigned_literals a) (opposite l) → ⊥
 not_both a l trail one two =
     let j = place_of a.literals l one in

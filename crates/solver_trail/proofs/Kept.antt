@@ -1,4 +1,4 @@
--- What has been gone through stays so.
+-- Visited literals stay visited.
 use Rattle.std.proofs.Common.{◌≡◌, ◌∙◌, inl, inr, ℕ, ◌+◌, ◌-◌, ◌<◌, ◌≤◌, List, ◌++◌, length, drop, get_or, refl, sym, ap, subst, arith, length-append}
 use Rattle.std.specs.Prelude.{min}
 use Rattle.std.proofs.lemmas.Bool.{cases_lt}
@@ -33,7 +33,7 @@ pub kept_more : {a b : Assignment} → Propagates a b → (visited reached : ℕ
     → AreKept a.literals visited reached watched → AreKept b.literals visited reached watched
 kept_more {a = a} step visited reached watched le kept = subst (λ ls. AreKept ls visited reached watched) (sym step.added) (kept_append a.literals step.more visited reached watched le kept)
 
--- where all literals from the visited ones on have the present level, all that have been gone through stay so
+-- if all literals from the visited ones up have the present level, all that have been reached stay visited
 pub kept_steady : (literals : List SetLiteral) (level visited reached : ℕ) (watched : List Literal) → AreInLevels 0 literals level
     → reached ≤ length literals
     → ((j : ℕ) (d : SetLiteral) → visited ≤ j → j < length literals → (get_or literals j d).level ≡ level) → AreKept literals visited reached watched

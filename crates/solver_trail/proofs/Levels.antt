@@ -31,7 +31,7 @@ AreLevels-le before (e ∷ entries) last h = omega (arith, follows_bounds before
 
 -- ---- for users
 
--- levels lie between the one before the list and the last one
+-- each level is between the one before the list and the last one
 pub level_between : (before : ℕ) (entries : List SetLiteral) (last k : ℕ) (d : SetLiteral) → AreInLevels before entries last → k < length entries
     → (before ≤ (get_or entries k d).level) × ((get_or entries k d).level ≤ last)
 level_between before [] last k d h within = absurd (omega arith)
@@ -53,7 +53,7 @@ levels_rise before (e ∷ entries) last zero (suc k) d h le within = (level_betw
 levels_rise before (e ∷ entries) last (suc j) zero d h le within = absurd (omega arith)
 levels_rise before (e ∷ entries) last (suc j) (suc k) d h le within = levels_rise e.level entries last j k d h.1 (omega arith) (omega arith)
 
--- from a literal of the last level on all have that level
+-- after a literal of the last level all have that level
 pub level_last : (entries : List SetLiteral) (last place j : ℕ) (d e : SetLiteral) → AreInLevels 0 entries last → place ≤ j → j < length entries
     → (get_or entries place e).level ≡ last → (get_or entries j d).level ≡ last
 level_last entries last place j d e h le within is =

@@ -41,7 +41,7 @@ among_cases (x ∷ xs) ys m there = elim there [
   | inr later ↦ elim (among_cases xs ys m later) [ inl left ↦ inl (inr left) | inr right ↦ inr right ]
 ]
 
--- all but the one in the middle
+-- all except the one in the middle
 among_but : (xs : List ℕ) (i : ℕ) (ys : List ℕ) (m : ℕ) → IsWatchAmong (xs ++ ys) m → IsWatchAmong (xs ++ i ∷ ys) m
 among_but xs i ys m there = elim (among_cases xs ys m there) [ inl left ↦ among_left xs (i ∷ ys) m left | inr right ↦ among_right xs (i ∷ ys) m (inr right) ]
 
@@ -57,7 +57,7 @@ apart_but (x ∷ xs) i ys h =
     let rest = apart_but xs i ys h.1 in
     ((λ there. h.0 (among_but xs i ys x there), rest.0), λ there. elim there [ inl e ↦ h.0 (among_right xs (i ∷ ys) x (inl (sym e))) | inr later ↦ rest.1 later ])
 
--- what follows one in the middle
+-- the watches after one in the middle
 pub chain_after : (nexts : List (Option ℕ)) (first : Option ℕ) (before : List ℕ) (j : ℕ) (rest : List ℕ) → IsChain nexts first (before ++ j ∷ rest)
     → IsChain nexts (get_or nexts j None) rest
 chain_after nexts first [] j rest h = h.1

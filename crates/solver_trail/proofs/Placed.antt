@@ -51,7 +51,7 @@ same_place s t o a b = let e : Some s ≡ Some t = sym a ∙ b in ap (λ (s : Sl
 
 -- ---- what the slots say
 
--- the slot of a variable that was read at a number
+-- the slot of a variable, read at an equal number
 pub slot_read : (slots : List (Option Slot)) (v n : ℕ) (x : Option Slot) → n ≡ v → v < length slots → x ≡ get_or slots n x → get_or slots v None ≡ x
 slot_read slots v n x same within read = sym (get_or_read slots v x within (read ∙ ap (λ m. get_or slots m x) same) None)
 

@@ -13,7 +13,7 @@ use Rattle.solver_trail.specs.Propagation.{AreSatisfied}
 use Rattle.solver_trail.proofs.Held.{place_of, held_at}
 use Rattle.solver_trail.proofs.Pairs.{partner_back, partner_within}
 
--- a clause with two literals of which one is true where the other is false
+-- a clause with two literals, one of them true if the other is false
 quiet_by_two : (a : Assignment) (clause : Clause) (l m : Literal) → AreWatched clause l m → (Contains (assigned_literals a) (opposite l) → Contains (assigned_literals a) m)
     → (Contains (assigned_literals a) (opposite m) → Contains (assigned_literals a) l) → IsQuiet (assigned_literals a) clause
 quiet_by_two a clause l m w first second = elim (literal_status (assigned_literals a) l) [
@@ -38,7 +38,7 @@ quiet_by_two a clause l m w first second = elim (literal_status (assigned_litera
   ]
 ]
 
--- every attached clause is quiet once all set literals have been gone through
+-- every attached clause is quiet once all set literals have been visited
 pub all_quiet : (a : Assignment) (short long : List ℕ) (clauses : List Clause) (literals : List Literal) (visited : ℕ)
     → AreSatisfied (assigned_literals a) short clauses → AreWatching long clauses literals → length literals ≡ 2 * length long
     → AreKept a.literals visited (length a.literals) literals → (number : ℕ) (clause : Clause) → Contains (short ++ long) number

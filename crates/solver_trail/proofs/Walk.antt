@@ -52,7 +52,6 @@ walk_more {w = w} h step reasons = record {
 -- ---- at a watch
 
 module _ {attached : Attached} {clauses : List Clause} {a : Assignment} {w : Watches} (h : HasWatches attached clauses a w) {watch : ℕ} (within : watch < length (watched_literals w)) where
-  -- the number of the watch's clause, and the literal of the clause's other watch
   abbrev pub number : ℕ
   number = owner attached.long.items watch
 
@@ -202,7 +201,7 @@ walk_done h none m less is = elim (h.seen m less is) [
   | inr ahead ↦ absurd (subst (λ rest. IsWatchAmong rest m) none ahead)
 ]
 
--- once the partners' literals are true the literal is gone through
+-- once the partners' literals are true the literal counts as visited
 pub walk_end : (lit : Literal) (a : Assignment) (w : Watches) → ArePartnersTrue lit a w
     → (place visited : ℕ) → ((d : SetLiteral) → (get_or a.literals place d).literal ≡ opposite lit) → visited ≤ place
     → AreKept a.literals visited place (watched_literals w) → AreKept a.literals visited (place + 1) (watched_literals w)
@@ -215,7 +214,7 @@ walk_end lit a w seen place visited at_place le k m less j d below e = elim (cas
   | inr ne ↦ k m less j d (omega arith) e
 ]
 
--- the literal is gone through where no clause was false
+-- the literal counts as visited if no clause was false
 pub walk_kept : (lit : Literal) (a : Assignment) (w : Watches) (found : Option ℕ) → (IsNone found → ArePartnersTrue lit a w)
     → (place visited : ℕ) → ((d : SetLiteral) → (get_or a.literals place d).literal ≡ opposite lit) → visited ≤ place
     → AreKept a.literals visited place (watched_literals w)

@@ -2,7 +2,7 @@
 use Rattle.std.specs.Prelude.{◌≡◌, ◌≢◌, ℕ, zero, suc, ◌+◌, ◌-◌, Option, None, Some, refl}
 use Rattle.std.proofs.Common.{arith, ap}
 
--- 0 for none, else the watch's number plus one
+-- 0 for none, else the number of the watch plus one.
 abbrev pub link_code : Option ℕ → ℕ
 link_code None = 0
 link_code (Some watch) = watch + 1

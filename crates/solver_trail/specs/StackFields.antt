@@ -6,11 +6,12 @@ use Rattle.solver_trail.specs.declared.set_literals.SetLiteral.{SetLiteral}
 use Rattle.solver_trail.specs.declared.set_literals.Slot.{Slot}
 use Rattle.solver_trail.specs.Assignment.{literals_of, IsInside, AreInLevels}
 
--- the slot of a literal at a place
+-- The slot of a literal that is at this place.
 abbrev pub literal_slot : Literal → ℕ → Slot
 literal_slot l place = record { positive = l.positive; place = place }
 
--- Each set literal has its place in the slot of its variable, and the slots have no other places.
+-- The slot of each set literal's variable has its sign and place, and the other slots are open. There is a slot for
+-- each variable and one for number 0, and each set literal is of one of the variables.
 pub record ArePlaced (variables : ℕ) (literals : List Literal) (entries : List SetLiteral) (slots : List (Option Slot)) : Type 0 where
   pub same : literals ≡ literals_of entries
   pub table : length slots ≡ variables + 1
@@ -21,7 +22,8 @@ pub record ArePlaced (variables : ℕ) (literals : List Literal) (entries : List
       → (s.place < length entries) × HoldsAt (λ (e : SetLiteral). e.literal ≡ record { variable = variable; positive = s.positive }) entries s.place
   pub count : length entries + count_by is_none slots ≡ length slots
 
--- The set literals are in their slots, their levels follow one another up to the present one, and there is room for each variable.
+-- The set literals are in their slots, their levels follow one another from 0 to the present one, and there is room
+-- for one literal of each variable.
 pub record IsStack (variables level : ℕ) (literals : List Literal) (entries : List SetLiteral) (slots : List (Option Slot)) (literal_capacity entry_capacity : ℕ) : Type 0 where
   pub placed : ArePlaced variables literals entries slots
   pub levels : AreInLevels 0 entries level

@@ -4,8 +4,8 @@ use Rattle.solver_trail.specs.declared.watches.Watches.{Watches}
 use Rattle.solver_trail.specs.Assignment.{Assignment, IsTrail}
 use Rattle.solver_trail.specs.Watches.{AreInLists, AreKept, watched_literals}
 
--- The watches are in their lists. Where one watches a literal that is false by one of those that were visited for good, its
--- partner's literal is true and of no higher level.
+-- The watches are in their lists, one for each literal. If a watched literal is false by one of the first `visited`
+-- set literals, the partner's literal is true and of no higher level.
 pub record AreWatchesReady (a : Assignment) (w : Watches) (visited : ℕ) : Type 0 where
   pub trail : IsTrail a
   pub listed : AreInLists w []

@@ -1,4 +1,4 @@
-//! Which literals a clause watches when it is attached.
+//! Which two of its literals a clause watches when it is attached.
 
 ghost use Rattle.std.specs.Prelude.{◌≢◌, ◌≤◌, ◌<◌, length, MatchOption};
 ghost use Rattle.clause_pool.specs.Proper.{IsProper};
@@ -14,7 +14,8 @@ pub(crate) struct WatchedPair {
     pub(crate) second: Lit,
 }
 
-/// Two literals of a clause, if it has two: those that aren't false, or else became false last.
+/// Returns two literals of the clause to watch, or none if it has fewer than two: literals that aren't false, else
+/// those that became false last.
 pub(crate) fn two_to_watch(set: &SetLiterals, clause: &[Lit]) -> Option<WatchedPair>
     requires { IsProper set.now.variables clause.now }
     ensures { MatchOption result (length clause.now < 2) (λ two. AreWatched clause.now two.first two.second) }
@@ -30,7 +31,8 @@ pub(crate) fn two_to_watch(set: &SetLiterals, clause: &[Lit]) -> Option<WatchedP
     })
 }
 
-// The place of a literal other than the one at a place: one that isn't false, or else became false last.
+// Returns the place of a literal of the clause, other than place `but`: one that isn't false, else the one that
+// became false last.
 fn last_false(set: &SetLiterals, clause: &[Lit], but: usize) -> usize
     requires proper { IsProper set.now.variables clause.now }
     requires two { 2 ≤ length clause.now }

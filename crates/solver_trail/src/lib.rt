@@ -1,9 +1,10 @@
-//! The trail of a solver that learns clauses from conflicts (Marques-Silva and Sakallah 1996): the literals that are set so
-//! far, and unit propagation with two watched literals over the clauses of a pool.
+//! The trail of a solver that learns clauses from conflicts (Marques-Silva and Sakallah 1996): the literals that are
+//! set so far, and unit propagation with two watched literals over the clauses of a pool.
 //!
-//! A solver decides a literal, which begins a new level, and propagates: wherever all literals of a clause but one are false,
-//! that one is set at the present level, with the clause as its reason. Propagation ends with nothing left to do, or with a
-//! clause that is false. The solver then learns a clause, goes back to a lower level, attaches it, and propagates again.
+//! A solver decides a literal, which begins a new level, and propagates: if all literals of a clause except one are
+//! false, that one is set at the present level, with the clause as its reason. Propagation ends when nothing is left
+//! to do, or at a clause that is false. The solver then learns a clause, goes back to a lower level, attaches the
+//! clause, and propagates again.
 //!
 //! ```text
 //! set_literals   the literals that are set, each with its level and its reason

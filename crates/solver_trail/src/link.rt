@@ -4,10 +4,10 @@ ghost use Rattle.std.specs.Prelude.{◌≡◌, ◌+◌, ◌<◌, ◌^◌, None, 
 
 use std::marker::Model;
 
-/// The number of the watch that comes next, or none, in four bytes.
+/// The number of the next watch, or none, in four bytes.
 #[derive(Clone, Copy)]
 pub(crate) struct Link {
-    // 0 for none, else the watch's number plus one
+    // 0 for none, else the number of the watch plus one
     code: u32,
 }
 

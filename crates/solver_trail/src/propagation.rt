@@ -1,5 +1,5 @@
-//! Unit propagation. Clauses of one literal come first. Then the set literals are gone through in order: each clause that watches
-//! the opposite of one, which is false now, watches another literal instead, or has its other watched literal set.
+//! Unit propagation. Clauses of one literal come first. Then each set literal is visited in order: each clause that
+//! watches its opposite, which is false now, watches another literal instead, or has its other watched literal set.
 
 ghost use Rattle.std.specs.Prelude.{◌≡◌, ℕ, ◌+◌, ◌^◌, ◌<◌, ◌≤◌, [], None, Some, Contains, IsNone, IfSome, MatchOption, is_none, if◌then◌else◌, length};
 ghost use Rattle.clause_pool.specs.Literal.{opposite};
@@ -19,14 +19,14 @@ use clause_pool::{Lit, Pool};
 /// The numbers of the attached clauses, in the order of attaching.
 #[derive(Drop)]
 pub(crate) struct Attached {
-    /// Those of fewer than two literals, which watch nothing.
+    /// The numbers of clauses of fewer than two literals, which watch nothing.
     pub(crate) short: Vec<u32>,
-    /// Those of two or more literals. The watches of the k-th one are 2 k and 2 k + 1.
+    /// The numbers of clauses of two or more literals. The watches of the k-th one are 2 k and 2 k + 1.
     pub(crate) long: Vec<u32>,
 }
 
-/// Sets all literals that unit propagation asks for, up to a clause that is false. The literals before the place have been gone
-/// through; it moves the place up to the first one that hasn't been.
+/// Sets all literals that unit propagation forces, up to a clause that is false. The set literals before `place` have
+/// been visited; moves `place` up to the first one that hasn't been.
 pub(crate) fn propagate(
     set: &mut SetLiterals,
     watches: &mut Watches,
@@ -58,7 +58,8 @@ pub(crate) fn propagate(
     }
 }
 
-// Sets the literals of the clauses of one literal, or answers the number of one of no literal or whose literal is false.
+// Sets the literals of the clauses of one literal, up to a clause that has no literal or a false one, and returns the
+// number of that clause.
 fn set_units(set: &mut SetLiterals, attached: &Attached, pool: &Pool) -> Option<u32>
     requires trail { IsTrail set.old }
     requires attached { AreAttached set.old.variables (numbers_attached attached.now) pool.now.clauses }
@@ -84,7 +85,7 @@ fn set_units(set: &mut SetLiterals, attached: &Attached, pool: &Pool) -> Option<
     None
 }
 
-// Goes through the literals from a place on: visits the clauses that watch their opposites.
+// Visits the clauses that watch the opposites of the set literals, starting at `place`, up to a clause that is false.
 fn follow(
     set: &mut SetLiterals,
     watches: &mut Watches,
@@ -115,7 +116,7 @@ fn follow(
     None
 }
 
-// Visits the clauses that watch the opposite of the literal at a place, up to one that is false.
+// Visits the clauses that watch the opposite of the set literal at `place`, up to a clause that is false.
 fn visit_list(
     set: &mut SetLiterals,
     watches: &mut Watches,
@@ -138,7 +139,8 @@ fn visit_list(
     visit_watches(set, watches, attached, pool, lit)
 }
 
-// Visits the clauses that watch a literal that is false, up to a clause that is false. Watches that stay are left where they are.
+// Visits the clauses that watch `lit`, which is false, up to a clause that is false. Watches that still watch `lit`
+// stay where they are in its list.
 fn visit_watches(
     set: &mut SetLiterals,
     watches: &mut Watches,
@@ -170,8 +172,9 @@ fn visit_watches(
     None
 }
 
-// The literal that a watch watches from now on in place of one that has become false, none where its clause is false. The partner's
-// literal stands beside the watch: while it is true, neither the clause is read nor its number.
+// Returns the literal that the watch watches next in place of `lit`, which has become false, or none if its clause is
+// false. The literal of the partner is stored beside the watch: if it is true, neither the clause nor its number is
+// read.
 fn visit_watch(
     set: &mut SetLiterals,
     watches: &Watches,
@@ -197,8 +200,9 @@ fn visit_watch(
     visit(set, pool, number, lit, other)
 }
 
-// The literal that a clause watches from now on in place of one that has become false, none where the clause is false. It is
-// the same one where the clause's other watched literal is true, or is set now, since all others are false.
+// Returns the literal that the clause watches next in place of `lit`, which has become false, or none if the clause
+// is false. This is `lit` itself if `other`, the clause's other watched literal, is true, or is set now because all
+// other literals are false.
 fn visit(set: &mut SetLiterals, pool: &Pool, number: u32, lit: Lit, other: Lit) -> Option<Lit>
     requires trail { IsTrail set.old }
     requires from { 0 < number }
@@ -224,7 +228,7 @@ fn visit(set: &mut SetLiterals, pool: &Pool, number: u32, lit: Lit, other: Lit) 
     }
 }
 
-// A literal of the clause that isn't false and isn't the other one, if there is one.
+// Returns a literal of the clause that isn't false and isn't `other`, if there is one.
 fn open_other(set: &SetLiterals, clause: &[Lit], other: Lit) -> Option<Lit>
     requires trail { IsTrail set.now }
     requires proper { IsProper set.now.variables clause.now }

@@ -10,7 +10,7 @@ use clause_pool::Lit;
 use std::alloc::{AllocError, Global};
 use std::marker::Model;
 
-/// A literal that is set, its level, and the number of the clause that forced it, none where it was decided.
+/// A literal that is set, its level, and the number of the clause that forced it, or none if it was decided.
 #[derive(Clone, Copy)]
 pub(crate) struct SetLiteral {
     pub(crate) literal: Lit,
@@ -18,14 +18,14 @@ pub(crate) struct SetLiteral {
     pub(crate) reason: Option<u32>,
 }
 
-/// The sign with which a variable is set, and the place of its literal.
+/// The sign with which a variable is set, and the place of its literal among the set ones.
 #[derive(Clone, Copy)]
 pub(crate) struct Slot {
     positive: bool,
     place: u32,
 }
 
-/// The set literals of the variables from 1 up, as a stack. The slots are by variable; number 0 is no variable.
+/// The set literals of variables 1 and up, as a stack. The slots are by variable; slot 0 belongs to no variable.
 #[derive(Drop)]
 pub(crate) struct SetLiterals {
     variables: u32,
@@ -48,7 +48,7 @@ impl Model for SetLiterals {
 }
 
 impl SetLiterals {
-    /// No variable is set.
+    /// Returns the stack for variables 1 to `variables`, with none of them set.
     pub(crate) fn new(alloc: Global, variables: u32) -> Result<SetLiterals, AllocError>
         ensures { IfOk result (λ set. set ≡ record { variables = variables; literals = []; level = 0 }) }
     {
@@ -76,7 +76,7 @@ impl SetLiterals {
         self.literals.as_slice()
     }
 
-    /// The literal of a variable, with its level and reason.
+    /// Returns the set literal of the variable, with its level and reason, or none if the variable is unset.
     pub(crate) fn get(&self, variable: u32) -> Option<SetLiteral>
         requires { variable ≤ self.now.variables }
         ensures { IsSetAt self.now variable result }
@@ -85,7 +85,7 @@ impl SetLiterals {
         Some(self.entries[slot.place as usize])
     }
 
-    /// Whether a literal is true, or false, or none.
+    /// Returns whether the literal is true or false, or none if it is neither.
     pub(crate) fn value_of(&self, lit: Lit) -> Option<bool>
         requires { lit.variable ≤ self.now.variables }
         ensures value { IsValueOf self.now lit result }
@@ -95,7 +95,6 @@ impl SetLiterals {
         Some(slot.positive == lit.positive())
     }
 
-    /// Whether a literal is true.
     pub(crate) fn is_true(&self, lit: Lit) -> bool
         requires { lit.variable ≤ self.now.variables }
         ensures { IsTrue result ↔ Contains (assigned_literals self.now) lit }
@@ -106,7 +105,8 @@ impl SetLiterals {
         }
     }
 
-    /// The place of the literal that makes this one false, or any higher number if it isn't false.
+    /// Returns the place of the set literal that makes `lit` false, or a number above all places if `lit` isn't
+    /// false.
     pub(crate) fn false_from(&self, lit: Lit) -> usize
         requires { lit.variable ≤ self.now.variables }
         ensures { IsNotFalseBefore self.now result lit }
@@ -117,14 +117,14 @@ impl SetLiterals {
         }
     }
 
-    /// Whether all literals from a place on are of the present level.
+    /// Returns true only if all set literals from `place` up are of the present level.
     pub(crate) fn is_steady(&self, place: usize) -> bool
         ensures { IsTrue result → IsSteady self.now place }
     {
         place >= self.entries.len() || self.entries[place].level == self.level
     }
 
-    /// Sets a literal at the present level, or at the next one where it is decided. It takes no memory.
+    /// Sets an unset literal: at the present level if it has a reason, else at the next one. Allocates no memory.
     pub(crate) fn put(&mut self, lit: Lit, level: u32, reason: Option<u32>)
         requires inside { lit.variable ≤ self.old.variables }
         requires unset { IsUnset self.old lit.variable }
@@ -145,19 +145,19 @@ impl SetLiterals {
         self.level = level;
     }
 
-    /// Sets a literal at the next level. It takes no memory.
+    /// Sets an unset literal at the next level, without a reason. Allocates no memory.
     pub(crate) fn decide(&mut self, lit: Lit)
         requires inside { lit.variable ≤ self.old.variables }
         requires unset { IsUnset self.old lit.variable }
         ensures literals { self.new ≡ with_literal self.old (decision self.old lit) }
         ensures trail { IsTrail self.new }
     {
-        // no literal is of variable 0, so not all of them are set
+        // no literal is of variable 0, so not all slots are in use
         let _variable = lit.variable();
         self.put(lit, self.level + 1, None);
     }
 
-    /// Unsets the literals of higher levels. It takes no memory.
+    /// Unsets the literals of levels above `level`, which becomes the present one. Allocates no memory.
     pub(crate) fn back_to(&mut self, level: u32)
         requires { level ≤ self.old.level }
         ensures cut { CutsAbove self.old self.new level }
@@ -170,7 +170,7 @@ impl SetLiterals {
     }
 }
 
-// Whether the last literal has a level above this one.
+// Whether the last literal has a level above `level`.
 fn ends_above(entries: &[SetLiteral], level: u32) -> bool
     ensures above { IsTrue result → (0 < length entries.now) × HoldsAt (λ (s : SetLiteral). level < s.level) entries.now (length entries.now - 1) }
     ensures not { IsFalse result → 0 < length entries.now → HoldsAt (λ (s : SetLiteral). s.level ≤ level) entries.now (length entries.now - 1) }
@@ -181,7 +181,6 @@ fn ends_above(entries: &[SetLiteral], level: u32) -> bool
     }
 }
 
-// Unsets the last literal.
 fn unset_last(literals: &mut Vec<Lit>, entries: &mut Vec<SetLiteral>, slots: &mut Vec<Option<Slot>>)
     requires some { 0 < length entries.old.items }
     requires placed { ArePlaced (length slots.old.items - 1) literals.old.items entries.old.items slots.old.items }

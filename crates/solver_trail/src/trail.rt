@@ -1,4 +1,4 @@
-//! The trail.
+//! The trail: what a solver calls.
 
 ghost use Rattle.std.specs.Prelude.{◌≡◌, ◌≤◌, ◌<◌, ◌⊎◌, List, None, Some, IfOk, OnOk, OnErr, MatchOption, length};
 ghost use Rattle.clause_pool.specs.Clauses.{Clause, numbered_clause};
@@ -14,8 +14,8 @@ use clause_pool::{Lit, Pool};
 use std::alloc::{AllocError, Global};
 use std::marker::Model;
 
-/// What unit propagation ends with: every attached clause has a true literal or two unset ones, or the attached clause
-/// of this number is false.
+/// What unit propagation ends with: each attached clause has a true literal or two unset ones (`Quiet`), or all
+/// literals of the attached clause of this number are false (`Conflict`).
 #[derive(Clone, Copy, PartialEq, Eq)]
 pub enum Propagated {
     Quiet,
@@ -23,18 +23,18 @@ pub enum Propagated {
 }
 
 /// The literals that are set, in order, each with its level and the number of the clause that forced it, and the
-/// numbers of the clauses that propagation goes over. The clauses themselves are in a pool.
+/// numbers of the attached clauses, over which propagation goes. The clauses themselves are in a pool.
 ///
-/// Variables are from 1 up. Each level above 0 begins with its decided literal.
+/// Variables are numbered from 1. Each level above 0 begins with its decided literal.
 pub struct Trail {
     set: SetLiterals,
     attached: Attached,
     watches: Watches,
-    // how many of the first set literals have been gone through, and stay so until they are unset
+    // how many of the first set literals have been visited, and stay visited until they are unset
     visited: usize,
 }
 
-// Written out, it is one step in the proof of each function that lets a trail go.
+// Written by hand, it is one step in the proof of each function that drops a trail.
 impl Drop for Trail {
     fn drop(self) {
         let Trail {
@@ -59,7 +59,7 @@ impl Model for Trail {
 }
 
 impl Trail {
-    /// A trail of the variables from 1 up to a number, at level 0 and with nothing set or attached.
+    /// Returns a trail of variables 1 to `variables`, at level 0, with nothing set or attached.
     pub fn new(alloc: Global, variables: u32) -> Result<Trail, AllocError>
         ensures empty { IfOk result (λ trail. trail ≡ empty_trail variables) }
         ensures fits { IfOk result (λ trail. (clauses : List Clause) → Fits trail clauses) }
@@ -78,7 +78,9 @@ impl Trail {
         })
     }
 
-    /// Has propagation go over the clause of a number, too.
+    /// Attaches clause `number` of the pool, so that propagation goes over it, too. What is set stays as it is.
+    /// Returns `AllocError` also if there would be more watches than a `u32` counts. After an error nothing has
+    /// changed.
     pub fn attach(&mut self, pool: &Pool, number: u32) -> Result<(), AllocError>
         requires fits { Fits self.old pool.now.clauses }
         requires from { 0 < number }
@@ -96,7 +98,7 @@ impl Trail {
                 self.attached.long.reserve(1)?;
                 self.watches.watch(pair.first, pair.second)?;
                 self.attached.long.push_reserved(number);
-                // what made one of the two false is gone through again
+                // the literals that made one of the two false are visited again
                 let first = self.set.false_from(pair.first);
                 let second = self.set.false_from(pair.second);
                 self.visited = self.visited.min(first).min(second);
@@ -106,7 +108,7 @@ impl Trail {
         Ok(())
     }
 
-    /// Sets an unset literal at the next level. It takes no memory.
+    /// Sets an unset literal at the next level, without a reason. Allocates no memory.
     pub fn decide(&mut self, lit: Lit)
         requires inside { lit.variable ≤ self.old.assignment.variables }
         requires unset { IsUnset self.old.assignment lit.variable }
@@ -118,7 +120,11 @@ impl Trail {
         self.set.decide(lit);
     }
 
-    /// Sets the literals that unit propagation over the attached clauses asks for, at the present level. It takes no memory.
+    /// Sets the literals that unit propagation over the attached clauses forces, at the present level, with two
+    /// watched literals for each longer clause. Returns `Conflict` with a number only if this clause is attached and
+    /// all its literals are false, and `Quiet` only if each attached clause has a true literal or two unset ones. In
+    /// both cases the new literals follow those that were set, which stay, and the attached clauses are the same.
+    /// Allocates no memory.
     pub fn propagate(&mut self, pool: &Pool) -> Propagated
         requires { Fits self.old pool.now.clauses }
         ensures found { IsPropagated self.new pool.now.clauses result }
@@ -127,7 +133,8 @@ impl Trail {
         ensures fits { Fits self.new pool.now.clauses }
         ensures trail { IsTrail self.new.assignment }
     {
-        // literals of lower levels that are gone through again, after a clause was attached, aren't gone through for good
+        // if literals of lower levels are visited again, after a clause was attached, the visit doesn't count for
+        // good
         let steady = self.set.is_steady(self.visited);
         let mut place = self.visited;
         let found = propagate(
@@ -143,7 +150,7 @@ impl Trail {
         found
     }
 
-    /// Unsets the literals of higher levels. It takes no memory.
+    /// Unsets the literals of levels above `level`, which becomes the present one. Allocates no memory.
     pub fn back_to(&mut self, level: u32)
         requires { level ≤ self.old.assignment.level }
         ensures assignment { CutsAbove self.old.assignment self.new.assignment level }
@@ -155,7 +162,7 @@ impl Trail {
         self.visited = self.visited.min(self.set.literals().len());
     }
 
-    /// The sign with which a variable is set.
+    /// Returns the sign with which the variable is set, none exactly if it is unset.
     pub fn value(&self, variable: u32) -> Option<bool>
         requires from { 0 < variable }
         requires inside { variable ≤ self.now.assignment.variables }
@@ -165,7 +172,7 @@ impl Trail {
         Some(found.literal.positive())
     }
 
-    /// The level at which a variable is set.
+    /// Returns the level at which the variable is set, none exactly if it is unset.
     pub fn level_of(&self, variable: u32) -> Option<u32>
         requires from { 0 < variable }
         requires inside { variable ≤ self.now.assignment.variables }
@@ -175,7 +182,8 @@ impl Trail {
         Some(found.level)
     }
 
-    /// The number of the clause that forced a variable's literal, none where the variable is unset or was decided.
+    /// Returns the number of the clause that forced the variable's literal, none exactly if the variable is unset or
+    /// was decided.
     pub fn reason(&self, variable: u32) -> Option<u32>
         requires from { 0 < variable }
         requires inside { variable ≤ self.now.assignment.variables }
@@ -184,7 +192,7 @@ impl Trail {
         self.set.get(variable)?.reason
     }
 
-    /// The present level.
+    /// Returns the present level.
     pub fn level(&self) -> u32
         ensures level { result ≡ self.now.assignment.level }
         ensures trail { IsTrail self.now.assignment }
@@ -192,7 +200,7 @@ impl Trail {
         self.set.level()
     }
 
-    /// The set literals in the order in which they were set.
+    /// Returns the set literals in the order in which they were set.
     pub fn set_literals(&self) -> &[Lit]
         ensures literals { result.now ≡ assigned_literals self.now.assignment }
         ensures trail { IsTrail self.now.assignment }

@@ -12,15 +12,15 @@ use std::alloc::{AllocError, Global};
 /// A watch of a clause, in eight bytes.
 #[derive(Clone, Copy)]
 pub(crate) struct Watch {
-    /// The literal that it watches.
+    /// The literal that is watched.
     pub(crate) literal: Lit,
-    /// The watch that follows this one in the list of the literal.
+    /// The next watch in the list of the literal.
     pub(crate) next: Link,
 }
 
 /// The watches of clauses, two for each. A watch is a number, and those of the k-th clause are 2 k and 2 k + 1.
 ///
-/// The watches of a literal are a linked list, so that a watch moves to another literal without memory.
+/// The watches of a literal are a linked list, so that a watch moves to another literal without allocating memory.
 #[derive(Drop)]
 pub(crate) struct Watches {
     /// The watches, by number.
@@ -30,7 +30,7 @@ pub(crate) struct Watches {
 }
 
 impl Watches {
-    /// No clause watches a literal.
+    /// Returns the watches of no clause, with an empty list for each literal of variables 0 to `variables`.
     pub(crate) fn new(alloc: Global, variables: u32) -> Result<Watches, AllocError>
         ensures watches { IfOk result (λ watches. watches.watches.items ≡ []) }
         ensures firsts { IfOk result (λ watches. watches.firsts.items ≡ replicate (2 * variables + 2) None) }
@@ -43,7 +43,8 @@ impl Watches {
         })
     }
 
-    /// Adds the two watches of a clause. More watches than a `u32` counts are want of memory.
+    /// Adds the two watches of a clause. Returns `AllocError` also if there would be more watches than a `u32`
+    /// counts.
     pub(crate) fn watch(&mut self, first: Lit, second: Lit) -> Result<(), AllocError>
         requires first { code_of first < length self.old.firsts.items }
         requires second { code_of second < length self.old.firsts.items }
@@ -61,7 +62,7 @@ impl Watches {
         Ok(())
     }
 
-    // Adds a watch, for which there is room.
+    // Adds a watch. The vector has room for it.
     fn push(&mut self, lit: Lit)
         requires lit { code_of lit < length self.old.firsts.items }
         requires few { vec_len self.old.watches + 1 < 2 ^ 32 }
@@ -81,14 +82,14 @@ impl Watches {
         self.link(at, lit);
     }
 
-    /// How many watches there are.
+    /// Returns the number of watches.
     pub(crate) fn len(&self) -> usize
         ensures { result ≡ length (watched_literals self.now) }
     {
         self.watches.len()
     }
 
-    /// The literal that a watch watches.
+    /// Returns the literal that the watch watches.
     pub(crate) fn literal(&self, watch: usize) -> Lit
         requires { watch < length (watched_literals self.now) }
         ensures { result ≡ watched (watched_literals self.now) watch }
@@ -96,7 +97,7 @@ impl Watches {
         self.watches[watch].literal
     }
 
-    /// The watch that follows one in a literal's list, or begins the list.
+    /// Returns the watch after `last` in the list of the literal, or the first one of the list if `last` is none.
     pub(crate) fn after(&self, lit: Lit, last: Option<usize>) -> Option<usize>
         requires lit { code_of lit < length self.now.firsts.items }
         requires last { IfSome last (λ at. at < length (watched_literals self.now)) }
@@ -108,8 +109,8 @@ impl Watches {
         }
     }
 
-    /// Has the first watch ahead in a literal's list watch a literal, the same one or another. A watch of the same literal
-    /// stays where it is, another goes to the front of its new list. It answers the last watch that stays.
+    /// Lets the first watch ahead in the list of `lit` watch `target`. If `target` is `lit` the watch stays where it
+    /// is, else it goes to the front of the list of `target`. Returns the last watch that stays in the list of `lit`.
     pub(crate) fn rewatch(
         &mut self,
         lit: Lit,
@@ -133,7 +134,7 @@ impl Watches {
         last
     }
 
-    // Leaves the watch that follows one in a literal's list, or begins it, out of the list.
+    // Removes the watch `at`, which comes after `last` or first, from the list of the literal.
     fn unlink(&mut self, lit: Lit, last: Option<usize>, at: usize)
         requires lit { code_of lit < length self.old.firsts.items }
         requires last { IfSome last (λ at. at < length (watched_literals self.old)) }
@@ -147,7 +148,7 @@ impl Watches {
         }
     }
 
-    // Has a watch, which is in no list, watch a literal, and puts it to the front of the literal's list.
+    // Lets the watch `at`, which is in no list, watch the literal, and puts it to the front of the literal's list.
     fn link(&mut self, at: usize, lit: Lit)
         requires at { at < length (watched_literals self.old) }
         requires few { at + 1 < 2 ^ 32 }
@@ -165,7 +166,7 @@ impl Watches {
     }
 }
 
-/// The other watch of the same clause.
+/// Returns the other watch of the same clause.
 pub(crate) fn partner(watch: usize) -> usize
     requires { watch + 1 < 2 ^ 64 }
     ensures { result ≡ spec.partner watch }

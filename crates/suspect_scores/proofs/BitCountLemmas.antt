@@ -49,7 +49,7 @@ counted_more test listed i word old new h so_far bits some fits is =
           some k l ∙ (ap₂ (λ (a b : Bool). a || b) (so_far.some k l) (is k l) ∙ (or_more n (test x k) ∙ sym (ap (nat_lt 0) (sum_by_more (λ p. cond {A = ℕ} (test p k) 1 0) listed i 0 h))));
     }
 
--- the bits of so many words fit
+-- the bits of the words fit
 pub counted_fits : (test : ℕ → ℕ → Bool) (listed : List ℕ) (i : ℕ) (t : BitCount) → IsBitCount test (take i listed) t → AllPairs ◌<◌ listed → i < length listed → get_or listed i 0 < 2 ^ 32 → t.bits + 64 < 2 ^ 64
 counted_fits test listed i t is up h low =
     let most : sum_by (λ p. count_lanes (test p)) (take i listed) ≤ length (take i listed) * 64 = sum_by-le (λ p. count_lanes (test p)) 64 (take i listed) (λ k d l. lanes_small (test (get_or (take i listed) k d))) in
@@ -57,7 +57,7 @@ counted_fits test listed i t is up h low =
 
 -- ---- all positions
 
--- tests that hold at no other position
+-- tests that hold at no position that isn't listed
 pub counted_all : (test : ℕ → ℕ → Bool) (listed : List ℕ) (n : ℕ) (t : BitCount) → IsBitCount test listed t → All (λ p. p < n) listed → AllPairs ◌<◌ listed
     → ((p k : ℕ) → p < n → (Contains listed p → ⊥) → k < 64 → test p k ≡ false) → IsBitCount test (range_with_len 0 n) t
 counted_all test listed n t is within up off =

@@ -85,7 +85,7 @@ module _ (columns : LogColumns) (sim : FaultSim) (first lane lanes line : ℕ) (
   unfolding lane_score score_to
   false_is k = λ i. count_to (λ p. row_bit columns.right p (at k i) && bit_at (lanes_at sim p) (lane + k)) (length sim.circuit.positions)
 
-  -- three tallies are the scores of the lanes
+  -- three counts are the scores of the lanes
   pub lanes_scored : (hit missed wrong : BitCount) (w : LaneScores) → lanes ≤ 64 → IsBitCount (is_changed_lane columns.wrong sim line lane) (range_with_len 0 (length sim.circuit.positions)) hit
       → IsBitCount (is_same_lane columns.wrong sim line lane lanes) (range_with_len 0 (length sim.circuit.positions)) missed → IsBitCount (is_changed_lane columns.right sim line lane) (range_with_len 0 (length sim.circuit.positions)) wrong
       → ((k : ℕ) → k < 64 → bit_of w.explained k ≡ ((bit_of hit.some k && not (bit_of missed.some k)) && not (bit_of wrong.some k))) → w.sums.hit_bits ≡ hit.bits → w.sums.missed_bits ≡ missed.bits → w.sums.false_bits ≡ wrong.bits
@@ -109,7 +109,7 @@ module _ (columns : LogColumns) (sim : FaultSim) (first lane lanes line : ℕ) (
             ∙ ap (λ (b : Bool). b && does_explain (lane_score columns sim first (lane + k))) (sym (not_below k lanes past))
       ]
 
-  -- two tallies say which lanes fit
+  -- two counts are the lanes that fit
   pub lanes_fit : (missed wrong : BitCount) (bits : ℕ) → IsBitCount (is_same_lane columns.wrong sim line lane lanes) (range_with_len 0 (length sim.circuit.positions)) missed
       → IsBitCount (is_changed_lane columns.right sim line lane) (range_with_len 0 (length sim.circuit.positions)) wrong → ((k : ℕ) → k < 64 → bit_of bits k ≡ (nat_lt k lanes && (not (bit_of missed.some k) && not (bit_of wrong.some k))))
       → (k : ℕ) → k < 64 → bit_of bits k ≡ (nat_lt k lanes && meets_all (lane_score columns sim first (lane + k)))
@@ -130,7 +130,7 @@ module _ (score : ℕ → LineScore) where
   abbrev pub sums_of : ℕ → LaneScores → Suspect
   sums_of number w = record { number = number; explained = count_ones w.explained; hit_bits = w.sums.hit_bits; missed_bits = w.sums.missed_bits; false_bits = w.sums.false_bits }
 
-  -- No score is above one.
+  -- No score is above `most`.
   pub record AreScoresTo (most : ℕ) : Type 0 where
     pub hit : (k : ℕ) → (score k).hit_bits ≤ most
     pub missed : (k : ℕ) → (score k).missed_bits ≤ most
@@ -182,7 +182,7 @@ module _ (score : ℕ → LineScore) where
       })
       ∙ ap (λ (j : ℕ). suspect_to score number j) all
 
-  -- a block fits where there is room for so many lines
+  -- a block fits if there is room for its lines
   pub block_fits : (number count most : ℕ) (old block : Suspect) → block ≡ suspect_to score number count → AreScoresTo most → CanAddBlock count most old → DoSumsFit old block
   unfolding suspect_to
   block_fits number count most old block is low room = record {
@@ -212,7 +212,7 @@ scores_small columns sim first = record {
 
 -- ---- the lanes of a word
 
--- no answer differs past those of a block
+-- no answer differs after the lanes of a block
 pub same_past : (sim : FaultSim) (count word lanes : ℕ) → lanes ≡ min (count - word * 64) 64 → word * 64 < LANES → AreSame sim count LANES → AreSame sim (word * 64 + lanes) (word * 64 + 64)
 same_past sim count word lanes is low past = λ p lane hp from to. past p lane hp (omega (arith, is, from, to)) (omega (arith, low, to))
 

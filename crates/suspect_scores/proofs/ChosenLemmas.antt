@@ -125,23 +125,23 @@ pub better_low : (b : Bool) (place count : ℕ) (best : Best) → best.place ≤
 better_low true place count best low = omega arith
 better_low false place count best low = omega (arith, low)
 
--- The first lines, so many, are left.
+-- The first `done` lines are left.
 pub record AreLeftTo (lines done : ℕ) (left : List Bool) : Type 0 where
   pub many : length left ≡ lines
   pub each : (k : ℕ) → k < done → bit_at left k ≡ true
 
--- The first lines are left out where a row has them.
+-- The lines that a row has are left out of the first `done` lines.
 pub record IsWithoutTo (row old new : List Bool) (done : ℕ) : Type 0 where
   pub many : length new ≡ length old
   pub each : (k : ℕ) → k < done → bit_at new k ≡ (bit_at old k && not (bit_at row k))
   pub others : (k : ℕ) → done ≤ k → bit_at new k ≡ bit_at old k
 
--- It is the best of the first rows, and stands among these.
+-- It is the best of the first `end` rows, at a place of at most `end`.
 pub record IsBestTo (rows : List (List Bool)) (numbers : List ℕ) (left : List Bool) (end : ℕ) (best : Best) : Type 0 where
   pub is : IsBestOf rows numbers left end best
   pub low : best.place ≤ end
 
--- Whatever is chosen next, these are chosen before.
+-- Whatever is chosen next, these are chosen before it.
 pub record IsChoosing (rows : List (List Bool)) (numbers : List ℕ) (lines : ℕ) (left : List Bool) (best : Best) (choices : List Choice) : Type 0 where
   pub many : length left ≡ lines
   pub is : IsBestOf rows numbers left (length numbers) best

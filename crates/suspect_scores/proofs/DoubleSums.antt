@@ -24,7 +24,7 @@ sum_short f n m le none =
 
 -- ---- ascending places
 
--- what is 0 at each place that isn't listed sums over a range as over the list
+-- what is 0 at each place that isn't listed has the same sum over a range as over the list
 pub sum_ascending : (f : ℕ → ℕ) (xs : List ℕ) (a n : ℕ) → All (λ x. a ≤ x) xs → All (λ x. x < a + n) xs → AllPairs ◌<◌ xs → ((x : ℕ) → a ≤ x → x < a + n → (Contains xs x → ⊥) → f x ≡ 0)
     → sum_by f xs ≡ sum_by f (range_with_len a n)
 sum_ascending f [] a zero low high up off = refl
@@ -52,7 +52,7 @@ sum_ascending f (x ∷ xs) a (suc n) low high up off = elim (cases_eq x a) [
     later x a xs first ne up zero d h = omega (arith, first, ne)
     later x a xs first ne up (suc k) d h = omega (arith, first, up 0 (suc k) d (omega arith) h)
 
--- each place is at most what stands there
+-- the number at a place is at least the place
 pub place_low : (xs : List ℕ) → AllPairs ◌<◌ xs → (k : ℕ) → k < length xs → k ≤ get_or xs k 0
 place_low xs up zero h = omega arith
 place_low xs up (suc k) h = omega (arith, place_low xs up k (omega (arith, h)), up k (suc k) 0 (omega arith) h)

@@ -1,4 +1,4 @@
--- How many rows have a mark where a log differs from number 0.
+-- How many rows have a mark at a bit of the log that differs from number 0.
 use Rattle.std.proofs.Common.{◌≡◌, ◌∙◌, ℕ, Bool, false, List, [], ◌∷◌, length, map, refl, sym, ap, arith}
 use Rattle.std.specs.Prelude.{count_by, zip, nat_lt}
 use Rattle.std.proofs.lemmas.List.Sums.{length-filter}
@@ -19,7 +19,7 @@ count_mapped : {X : Type 0} (f : X → Bool) (xs : List X) → count_by (λ (b :
 count_mapped f [] = refl
 count_mapped f (x ∷ xs) = omega (arith, count_more (λ (b : Bool). b) (f x) (map f xs), count_more f x xs, count_mapped f xs)
 
--- the marks of a line where it differs are as many as its differing bits
+-- a line has as many wrong marks as differing bits
 pub bits_wrong : (free : List Bool) (seen : List Seen) → row_bits (wrong_row free seen) ≡ differing_bits seen free
 unfolding row_bits
 bits_wrong free seen = count_listed (bit_at (wrong_row free seen)) (λ (b : Bool). b) false (wrong_row free seen) (λ k h. refl) ∙ count_mapped (λ x. differs x.0 x.1) (zip seen free)

@@ -16,7 +16,7 @@ pub mod ColumnLemmas
 pub mod BlockScores
 pub mod ExpectedLemmas
 pub mod FailedLemmas
-pub mod BenchLemmas
+pub mod PatternSimLemmas
 pub mod ChosenLemmas
 pub mod DoubleSums
 pub mod BitCountLemmas

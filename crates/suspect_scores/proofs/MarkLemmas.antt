@@ -28,7 +28,7 @@ module _ (test : Seen → Bool → Bool) where
   tested_at (f ∷ free) (s ∷ seen) zero d same h = refl
   tested_at (f ∷ free) (s ∷ seen) (suc k) d same h = tested_at free seen k d (omega (arith, same)) (omega (arith, h))
 
--- The marks of a line are set at the positions before one.
+-- The marks of a line are set at the positions before `at`.
 pub record IsMarkedTo (old new : LogMarks) (line at : ℕ) (seen : List Seen) : Type 0 where
   pub free : new.free ≡ old.free
   pub wrong : IsRowBegun old.wrong new.wrong line at (wrong_row (row_at old.free line) seen)
@@ -68,6 +68,6 @@ pub bit_marked : (test : Seen → Bool → Bool) (free now : List (List Bool)) (
 bit_marked test free now line at seen d bit result same wide h is told =
     told ∙ ((λ i. test (get_or seen at d) (is i)) ∙ ((λ i. test (get_or seen at d) (bit_at (row_at (same i) line) at)) ∙ sym (tested_at test (row_at free line) seen at d wide h)))
 
--- so many rows of so many bits
+-- the same with equal numbers of lines and positions
 pub sized : (lines positions count width : ℕ) (m : LogMarks) → lines ≡ count → positions ≡ width → AreMarkRows lines positions m → AreMarkRows count width m
 sized lines positions count width m a b are = subst (λ n. AreMarkRows n width m) a (subst (λ n. AreMarkRows lines n m) b are)

@@ -1,4 +1,4 @@
--- The score of lines by where bits are changed, wrong and right is that of the definitions.
+-- The score of lines by which bits are changed, wrong and right is that of the definitions.
 use Rattle.std.proofs.Common.{◌≡◌, ◌∙◌, ℕ, zero, suc, ◌+◌, ◌<◌, ◌≤◌, Bool, true, false, not, cond, List, [], ◌∷◌, length, take, get_or, refl, sym, ap, ap₂, arith}
 use Rattle.std.specs.Prelude.{sum_by, count_by, zip, nat_lt, ◌&&◌, ◌==◌, filter}
 use Rattle.std.specs.Bool.{beq, Decides}
@@ -26,7 +26,7 @@ use Rattle.suspect_scores.proofs.RangeSums.{one_of, sum_more, count_listed}
 
 -- ---- by the definitions
 
--- what a position tells
+-- what a position says
 told_at : (seen : List Seen) (free own : List Bool) (k : ℕ) → length free ≡ length seen → length own ≡ length seen → k < length seen → get_or (zip seen (zip free own)) k (Unseen, (false, false)) ≡ (get_or seen k Unseen, (bit_at free k, bit_at own k))
 told_at [] free own k f o h = absurd (omega (arith, h))
 told_at (s ∷ seen) [] own k f o h = absurd (omega (arith, f))
@@ -40,7 +40,7 @@ told_long (s ∷ seen) [] own f o = absurd (omega (arith, f))
 told_long (s ∷ seen) (x ∷ free) [] f o = absurd (omega (arith, o))
 told_long (s ∷ seen) (x ∷ free) (y ∷ own) f o = omega (arith, told_long seen free own (omega (arith, f)) (omega (arith, o)))
 
--- a position is missed or false where what was seen isn't the answer's
+-- a position is missed or false exactly if what was seen isn't the answer's bit
 one_unlike : (s : Seen) (f o : Bool) → ◌≡◌ {A = ℕ} (cond (is_missed (s, (f, o))) 1 0 + cond (is_false (s, (f, o))) 1 0) (cond (differs s o) 1 0)
 one_unlike Zero true true = refl
 one_unlike Zero true false = refl
@@ -67,7 +67,7 @@ missed_or_false (s ∷ seen) (f ∷ free) (o ∷ own) same =
     let d = count_more (λ x. differs x.0 x.1) (s, o) (zip seen own) in
     omega (arith, a, b, d, one_unlike s f o, missed_or_false seen free own (omega (arith, same)))
 
--- a line is explained where it is failing and nothing is unlike
+-- a line is explained exactly if something is hit and nothing is missed or false
 abbrev IsMet : ℕ → ℕ → ℕ → Type 0
 IsMet hit missed wrong = (0 < hit) × ((missed ≡ 0) × (wrong ≡ 0))
 
@@ -153,7 +153,7 @@ module _ (table : Answers) (number : ℕ) (line : Line) (frees : length (answer_
           explains_it = (λ i. nat_lt 0 (hit_is i) && (missed_is i == 0 && false_is i == 0)) ∙ explained_is _ _ _ _ _ (hit_or_missed line.1 free own same) (missed_or_false line.1 free own same);
         }
 
--- a line fits where nothing is missed or false
+-- a line fits exactly if nothing is missed or false
 both_zero : (missed wrong unlike : ℕ) → missed + wrong ≡ unlike → (missed == 0 && wrong == 0) ≡ (unlike == 0)
 both_zero missed wrong unlike e = grind (arith, nat_tests, e)
 
@@ -170,9 +170,9 @@ fits_told seen free own free_long own_long changed wrong right positions many ch
     let sums = missed_or_false seen free own (own_long ∙ sym free_long) in
     (λ i. meets_all (score_to changed wrong right (sym many i))) ∙ both_zero score.missed_bits score.false_bits (differing_bits seen own) (omega (arith, told.missed, told.wrong, sums))
 
--- ---- lines more
+-- ---- more lines
 
--- the sum of lines of which so many are more
+-- the sum over `count` more lines
 sum_block : (g : Line → ℕ) (h : ℕ → ℕ) (lines : List Line) (first count : ℕ) → first + count ≤ length lines → ((k : ℕ) → k < count → h k ≡ g (logged_line lines (first + k)))
     → sum_by g (take (first + count) lines) ≡ sum_by g (take first lines) + sum_by h (range_with_len 0 count)
 sum_block g h lines first zero inside same = let none : first + 0 ≡ first = omega arith in omega (arith, ap (λ (n : ℕ). sum_by g (take n lines)) none)
@@ -196,7 +196,7 @@ module _ (table : Answers) (lines : List Line) (number first count : ℕ) (insid
   abbrev is_explained : Line → Bool
   is_explained line = is_failing table line && explains table number line
 
-  -- so many lines more
+  -- the score of `count` more lines
   pub suspect_more : (old new : Suspect) → old ≡ suspect_of table (take first lines) number → HasBlockMore score count old new → new ≡ suspect_of table (take (first + count) lines) number
   unfolding suspect_of hit_bits missed_bits false_bits
   suspect_more old new is more =

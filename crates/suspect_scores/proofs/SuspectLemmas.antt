@@ -19,7 +19,7 @@ use Rattle.suspect_scores.specs.Laws.{HaveOneListing}
 
 -- ---- the order
 
--- A suspect isn't behind another.
+-- A suspect isn't after another.
 abbrev pub IsAtMost : Suspect → Suspect → Type 0
 IsAtMost a b = (b.explained < a.explained) ⊎ ((a.explained ≡ b.explained) × ((unlike_bits a < unlike_bits b) ⊎ ((unlike_bits a ≡ unlike_bits b) × (a.number ≤ b.number))))
 
@@ -79,7 +79,7 @@ stands_before a b e =
       )
     ]
 
--- where one stands before another, the other doesn't stand before it
+-- if one comes before another, the other doesn't come before it
 not_before : (a b : Suspect) → is_lt (suspect_cmp a b) ≡ true → is_lt (suspect_cmp b a) ≡ false
 not_before a b e = by (is_lt (suspect_cmp b a)) refl
   where
@@ -87,7 +87,7 @@ not_before a b e = by (is_lt (suspect_cmp b a)) refl
     by false is = refl
     by true is = grind (arith, stands_before a b e, stands_before b a is)
 
--- nor does it where it is at most that
+-- nor does it if it is at most that
 not_behind : (a b : Suspect) → IsAtMost a b → is_lt (suspect_cmp b a) ≡ false
 not_behind a b low = by (is_lt (suspect_cmp b a)) refl
   where
@@ -137,7 +137,7 @@ rising (x ∷ y ∷ xs) sorted =
     subst (λ (n : ℕ). is_lt (suspect_cmp (get_or (x ∷ y ∷ xs) n d) (get_or (x ∷ y ∷ xs) (suc k) d)) ≡ false) next (sorted (suc k) d (omega arith) (omega (arith, high)))) in
     ((first, through x y xs first rest.0), rest)
 
--- ---- suspects that their numbers tell
+-- ---- suspects that are those of their numbers
 
 -- whether a suspect has a number, as a count
 abbrev one_of : ℕ → Suspect → ℕ
@@ -151,7 +151,7 @@ module _ (own : ℕ → Suspect) where
   same_own : (x z : Suspect) → IsOwn x → IsOwn z → z.number ≡ x.number → z ≡ x
   same_own x z is also e = also ∙ (ap own e ∙ sym is)
 
-  -- what is true of each of some suspects is true of one whose number stands among them
+  -- what is true of each of some suspects is true of one whose number is among theirs
   standing_step : (Q : Suspect → Type 0) (x z : Suspect) (zs : List Suspect) (b : Bool) → IsOwn x → IsOwn z → (z.number == x.number) ≡ b → Q z → 0 < sum_by (one_of x.number) (z ∷ zs) → (0 < sum_by (one_of x.number) zs → Q x) → Q x
   standing_step Q x z zs true is also e here some rest = subst Q (same_own x z is also (eqb-true z.number x.number e)) here
   standing_step Q x z zs false is also e here some rest =
@@ -198,7 +198,7 @@ ranked_once t table lines ranked others are also =
 
 -- ---- some order
 
--- No suspect is before the one in front of it.
+-- No suspect comes before the one listed before it.
 abbrev IsUp : List Suspect → Type 0
 IsUp [] = Unit {0}
 IsUp (x ∷ []) = Unit {0}
@@ -215,7 +215,7 @@ up_sorted (x ∷ y ∷ xs) up = at up.0 (up_sorted (y ∷ xs) up.1)
         let next : suc k + 1 ≡ suc (k + 1) = omega arith in
         subst (λ (n : ℕ). is_lt (suspect_cmp (get_or (x ∷ y ∷ xs) n d) (get_or (x ∷ y ∷ xs) (suc k) d)) ≡ false) (sym next) (rest k d (omega arith) (omega (arith, high)))
 
--- a place for one more
+-- there is a place for one more
 place_in : (y : Suspect) (xs : List Suspect) → IsUp xs → (i : ℕ) × IsUp (insert xs i y)
 place_in y [] up = (0, tt)
 place_in y (x ∷ []) up = by (is_lt (suspect_cmp y x)) refl

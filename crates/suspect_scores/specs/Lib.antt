@@ -6,5 +6,5 @@ pub mod Laws
 pub mod Scored
 pub mod Columns
 pub mod Marks
-pub mod Benches
+pub mod NotedRows
 pub mod Chosen

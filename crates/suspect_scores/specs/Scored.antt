@@ -7,7 +7,7 @@ use Rattle.suspect_scores.specs.declared.marks.LogMarks.{LogMarks}
 use Rattle.suspect_scores.specs.declared.scoring.LineScore.{LineScore}
 use Rattle.suspect_scores.specs.declared.suspect.Suspect.{Suspect}
 
--- There are so many rows of marks, each with a bit for each position.
+-- There are `lines` rows of marks of each kind, each with a bit for each position.
 pub record AreMarkRows (lines positions : ℕ) (m : LogMarks) : Type 0 where
   pub frees : AreRows lines positions m.free
   pub wrongs : AreRows lines positions m.wrong
@@ -15,11 +15,11 @@ pub record AreMarkRows (lines positions : ℕ) (m : LogMarks) : Type 0 where
 
 -- ---- tests of a position
 
--- at how many of so many places a test holds
+-- at how many of the first `n` places a test holds
 abbrev pub count_to : (ℕ → Bool) → ℕ → ℕ
 count_to test n = count_by test (range_with_len 0 n)
 
--- from where bits are changed, and where they are wrong and right, the score of so many positions
+-- the score of the first `n` positions, by where bits are changed, wrong and right
 unfoldable pub score_to : (ℕ → Bool) → (ℕ → Bool) → (ℕ → Bool) → ℕ → LineScore
 score_to changed wrong right n = record {
   hit_bits = count_to (λ k. wrong k && changed k) n;

@@ -1,9 +1,9 @@
-//! Bits of words that are counted.
+//! Counts of the bits of words.
 
 ghost use Rattle.std.specs.Prelude.{◌≡◌, ℕ, ◌+◌, ◌<◌, ◌^◌, ◌||◌, count_ones};
 ghost use Rattle.net_model.specs.Rows.{bit_of};
 
-/// How many bits of some words are set, and which are set in one of them.
+/// How many bits of some words are set, and which are set in at least one of them.
 #[derive(Clone, Copy)]
 pub(crate) struct BitCount {
     pub(crate) bits: u64,
@@ -11,7 +11,7 @@ pub(crate) struct BitCount {
 }
 
 impl BitCount {
-    /// That of no word.
+    /// Returns the count of no word.
     pub(crate) fn new() -> BitCount
         ensures bits { result.bits ≡ 0 }
         ensures some { result.some ≡ 0 }
@@ -19,7 +19,6 @@ impl BitCount {
         BitCount { bits: 0, some: 0 }
     }
 
-    /// Adds a word.
     pub(crate) fn add(&mut self, word: u64)
         requires { self.old.bits + 64 < 2 ^ 64 }
         ensures bits { self.new.bits ≡ self.old.bits + count_ones word }

@@ -1,4 +1,5 @@
-//! The scores of the lines of a block, under the fault that was injected last.
+//! What the injected number adds to its score by the lines of a block, which of 64 lines it explains, and which of them
+//! its answers fit.
 
 ghost use Rattle.std.specs.Prelude.{◌≡◌, ℕ, ◌+◌, ◌-◌, ◌*◌, ◌<◌, ◌≤◌, ◌^◌, ◌&&◌, Bool, length, nat_lt, min};
 ghost use Rattle.std.specs.List.{range_with_len};
@@ -14,14 +15,15 @@ use fault_sim::FaultSim;
 use net_model::{AnswerRows, low_bits, word_at};
 use word_sim::LANES;
 
-/// In which of 64 lanes the line is failing and explained, and the sums of their scores.
+/// In which of 64 lanes the line is failing and explained, and the sums of the lines' scores.
 #[derive(Clone, Copy)]
 struct LaneScores {
     explained: u64,
     sums: LineScore,
 }
 
-/// Adds the scores of the lines of a block to a suspect. The first line is that of lane 0.
+/// Adds the scores of the lines of a block to a suspect. Line `first` is that of lane 0, and the block has `count`
+/// lines.
 pub(crate) fn add_block(
     suspect: &mut Suspect,
     columns: &LogColumns,
@@ -39,7 +41,8 @@ pub(crate) fn add_block(
     add(suspect, block);
 }
 
-/// In which of the 64 lanes of a word the line is failing and explained. The first line of the block is that of lane 0.
+/// Returns in which of the 64 lanes of word `word` the line is failing and explained. Line `first` is that of lane 0.
+/// Lane `count` and those after it have a 0.
 pub(crate) fn explained_word(
     columns: &LogColumns,
     sim: &FaultSim,
@@ -55,8 +58,8 @@ pub(crate) fn explained_word(
     score_lanes(columns, sim, first, word, lanes_in(count, word)).explained
 }
 
-/// In which of the 64 lanes of a word the answers have every observed bit of the line. The first line of the block is that
-/// of lane 0.
+/// Returns in which of the 64 lanes of word `word` the answers have every observed bit of the line. Line `first` is
+/// that of lane 0. Lane `count` and those after it have a 0.
 pub fn fitting_word(columns: &LogColumns, sim: &FaultSim, first: u32, count: u32, word: u32) -> u64
     requires columns { AreColumnRows (length sim.now.circuit.positions) columns.now }
     requires word { word * 64 < LANES }
@@ -70,7 +73,7 @@ pub fn fitting_word(columns: &LogColumns, sim: &FaultSim, first: u32, count: u32
     low_bits(!missed.some & !false_alarm.some, lanes as usize)
 }
 
-// The score of the lines of a block alone.
+// Returns the score of the lines of a block alone.
 fn block_score(number: u32, columns: &LogColumns, sim: &FaultSim, first: u32, count: u32) -> Suspect
     requires columns { AreColumnRows (length sim.now.circuit.positions) columns.now }
     requires count { count ≤ LANES }
@@ -99,7 +102,7 @@ fn block_score(number: u32, columns: &LogColumns, sim: &FaultSim, first: u32, co
     block
 }
 
-// Adds the sums of other lines.
+// Adds the sums of `more`.
 fn add(suspect: &mut Suspect, more: Suspect)
     requires { DoSumsFit suspect.old more }
     ensures { HasSums suspect.old more suspect.new }
@@ -110,7 +113,7 @@ fn add(suspect: &mut Suspect, more: Suspect)
     suspect.false_bits += more.false_bits;
 }
 
-// How many of the 64 lanes of a word are among the first ones, so many.
+// Returns how many of the 64 lanes of a word are among the first `count` lanes.
 fn lanes_in(count: u32, word: u32) -> u32
     requires { word * 64 < LANES }
     ensures { result ≡ min (count - word * 64) 64 }
@@ -118,7 +121,7 @@ fn lanes_in(count: u32, word: u32) -> u32
     count.saturating_sub(word * 64).min(64)
 }
 
-// The scores of the lines of so many lanes of a word.
+// Returns the scores of the lines of the first `lanes` lanes of a word.
 fn score_lanes(
     columns: &LogColumns,
     sim: &FaultSim,
@@ -146,7 +149,8 @@ fn score_lanes(
     }
 }
 
-// Where bits of 64 lines from one on are set, and the answers differ in the lanes of a word.
+// Counts, over all positions and 64 lines starting at `line`, the set bits of `rows` at which the answer differs in the
+// line's lane of the word.
 fn changed_bits(rows: &AnswerRows, sim: &FaultSim, line: usize, word: u32) -> BitCount
     requires rows { length rows.now ≡ length sim.now.circuit.positions }
     requires word { word * 64 < LANES }
@@ -160,7 +164,8 @@ fn changed_bits(rows: &AnswerRows, sim: &FaultSim, line: usize, word: u32) -> Bi
     counted
 }
 
-// Where wrong bits of 64 lines from one on are set, and the answers don't differ in the first lanes of a word, so many.
+// Counts, over all positions and 64 lines starting at `line`, the wrong bits at which the answer doesn't differ in the
+// line's lane, of the first `lanes` lanes of the word.
 fn unchanged_bits(
     columns: &LogColumns,
     sim: &FaultSim,

@@ -4,7 +4,7 @@ ghost use Rattle.std.specs.Prelude.{◌≡◌, ◌<◌, length, Some, slice_get}
 
 use std::marker::Model;
 
-/// A number, and how many failing patterns it explains that none before it explains.
+/// A number, and how many failing patterns it explains that no number before it explains.
 #[derive(Clone, Copy, Debug, PartialEq, Eq)]
 pub struct Choice {
     pub number: u32,
@@ -27,7 +27,6 @@ impl Model for Cover {
 }
 
 impl Cover {
-    // These choices.
     pub(crate) fn of(choices: Vec<Choice>) -> Cover
         ensures { result ≡ choices.items }
     {

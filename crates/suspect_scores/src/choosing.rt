@@ -1,4 +1,5 @@
-//! Numbers that are chosen one after another, each for what it explains of the lines that are left.
+//! Numbers that are chosen one after another: each time the one whose row has most lines that are left, until no row
+//! has any.
 
 ghost use Rattle.std.specs.Prelude.{◌≡◌, ◌<◌, ◌≤◌, ◌^◌, true, Bool, List, length, replicate, slice_index, if◌then◌else◌, ◌||◌, ◌&&◌, ◌==◌, nat_lt, IfOk};
 ghost use Rattle.net_model.specs.Rows.{row_at};
@@ -9,14 +10,15 @@ use crate::choices::Choice;
 use net_model::{AnswerRows, Bits};
 use std::alloc::{AllocError, Global};
 
-/// The place of a row, and how many lines that are left it has.
+/// The place of a row, and how many of the lines that are left it has.
 #[derive(Clone, Copy)]
 pub(crate) struct Best {
     pub(crate) place: usize,
     pub(crate) count: u32,
 }
 
-/// Numbers that together have all lines that any row has, so many, one after another.
+/// Returns numbers that together have all lines that any row has, chosen one after another, each with how many lines it
+/// adds. `lines` is how many lines there are.
 pub(crate) fn choose(
     alloc: Global,
     numbers: &[u32],
@@ -41,7 +43,7 @@ pub(crate) fn choose(
     Ok(choices)
 }
 
-// A bit for each line, all 1.
+// Returns a bit for each line, all 1.
 fn all_left(alloc: Global, lines: usize) -> Result<Bits, AllocError>
     ensures { IfOk result (AreAllLeft lines) }
 {
@@ -52,7 +54,7 @@ fn all_left(alloc: Global, lines: usize) -> Result<Bits, AllocError>
     Ok(left)
 }
 
-// The row with most lines that are left, of several that of the lowest number.
+// Returns the row with most lines that are left, and of several such rows that of the lowest number.
 fn best_of(numbers: &[u32], rows: &AnswerRows, left: &Bits) -> Best
     requires rows { AreRows (length numbers.now) (length left.now) rows.now }
     requires few { length left.now < 2 ^ 32 }
@@ -67,21 +69,20 @@ fn best_of(numbers: &[u32], rows: &AnswerRows, left: &Bits) -> Best
     best
 }
 
-// Whether a count is more than another, or is as much and has the lower number.
+// Returns whether a count is more than the best one, or is equal to it and has the lower number.
 fn beats(count: u32, number: u32, best_count: u32, best_number: u32) -> bool
     ensures { result ≡ (nat_lt best_count count || (count == best_count && nat_lt number best_number)) }
 {
     count > best_count || (count == best_count && number < best_number)
 }
 
-// The other one where it is better.
 fn better(best: Best, other: Best, is_better: bool) -> Best
     ensures { result ≡ (if is_better then other else best) }
 {
     if is_better { other } else { best }
 }
 
-// How many lines that are left a row has.
+// Returns how many of the lines that are left the row has.
 fn count_left(rows: &AnswerRows, row: usize, left: &Bits) -> u32
     requires row { row < length rows.now }
     requires wide { length (row_at rows.now row) ≡ length left.now }
@@ -96,14 +97,13 @@ fn count_left(rows: &AnswerRows, row: usize, left: &Bits) -> u32
     count
 }
 
-// 1 for a bit that is set.
 fn as_one(bit: bool) -> u32
     ensures { result ≡ (if bit then 1 else 0) }
 {
     u32::from(bit)
 }
 
-// Leaves out the lines that a row has.
+// Removes the lines that the row has from those that are left.
 fn leave(rows: &AnswerRows, row: usize, left: &mut Bits)
     requires row { row < length rows.now }
     requires wide { length (row_at rows.now row) ≡ length left.old }

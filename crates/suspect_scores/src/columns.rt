@@ -1,4 +1,5 @@
-//! What a log tells, by positions.
+//! The marks of a log by position: for each position two rows with a bit for each line. Also the positions that are
+//! wrong in some line.
 
 ghost use Rattle.std.specs.Prelude.{◌≡◌, ℕ, ◌<◌, ◌≤◌, ◌++◌, ◌∷◌, [], false, length, if◌then◌else◌, IfOk, OnOk};
 ghost use Rattle.net_model.specs.Rows.{row_at, row_bit};
@@ -15,14 +16,14 @@ use std::alloc::{AllocError, Global};
 pub struct LogColumns {
     /// Where an observed bit differs from that of number 0.
     pub wrong: AnswerRows,
-    /// Where an observed bit doesn't.
+    /// Where an observed bit doesn't differ.
     pub right: AnswerRows,
     /// The positions that are wrong in some line, ascending.
     pub wrong_positions: Vec<u32>,
 }
 
 impl LogColumns {
-    /// The marks of a log by positions.
+    /// Returns the marks of a log by position.
     pub(crate) fn of(
         alloc: Global,
         marks: &LogMarks,
@@ -43,7 +44,7 @@ impl LogColumns {
     }
 }
 
-// The columns of rows.
+// Returns a row for each position, with its bit in each line.
 fn transposed(
     alloc: Global,
     rows: &AnswerRows,
@@ -60,7 +61,6 @@ fn transposed(
     Ok(columns)
 }
 
-// Writes the column of a position.
 fn transpose(rows: &AnswerRows, columns: &mut AnswerRows, lines: usize, position: usize)
     requires rows { (line : ℕ) → line < lines → position < length (row_at rows.now line) }
     requires lines { lines ≤ length rows.now }
@@ -73,7 +73,7 @@ fn transpose(rows: &AnswerRows, columns: &mut AnswerRows, lines: usize, position
     }
 }
 
-// The positions whose column has a bit that is set.
+// Returns, ascending, the positions whose row has a bit that is set.
 fn wrong_positions(
     alloc: Global,
     wrong: &AnswerRows,
@@ -89,7 +89,6 @@ fn wrong_positions(
     Ok(listed)
 }
 
-// Adds a position if it is wanted.
 fn push_if(listed: &mut Vec<u32>, position: u32, wanted: bool) -> Result<(), AllocError>
     ensures { OnOk result (listed.new.items ≡ (if wanted then listed.old.items ++ position ∷ [] else listed.old.items)) }
 {
@@ -99,7 +98,7 @@ fn push_if(listed: &mut Vec<u32>, position: u32, wanted: bool) -> Result<(), All
     Ok(())
 }
 
-// Whether a row may have a bit that is set: where not, none is.
+// Returns false only if no bit of the row is set.
 fn has_some(rows: &AnswerRows, row: usize) -> bool
     requires { row < length rows.now }
     ensures { result ≡ false → (at : ℕ) → row_bit rows.now row at ≡ false }

@@ -1,4 +1,4 @@
-//! The log that a chip without a fault gives.
+//! The log that a chip without a fault gives: a line for each pattern, from the answers of number 0.
 
 ghost use Rattle.std.specs.Prelude.{◌≡◌, ◌<◌, ◌++◌, ◌∷◌, [], length, IfOk, OnOk};
 ghost use Rattle.std.specs.String.{string_bytes};
@@ -13,7 +13,8 @@ use std::alloc::{AllocError, Global};
 use table_dicts::{AnswerTable, Setting, number_answers_at};
 use text_fields::push_bits;
 
-/// The log that a chip without a fault gives to the patterns.
+/// Returns the log that a chip without a fault gives to the patterns: for each in order its number, a blank and the
+/// answer's bits.
 pub fn expected_log(alloc: Global, setting: &Setting) -> Result<Vec<u8>, AllocError>
     requires { IsScored setting.now }
     ensures { IfOk result (λ text. (table : Answers) → AreAnswersAt setting.now table → text.items ≡ expected_text table) }
@@ -23,7 +24,6 @@ pub fn expected_log(alloc: Global, setting: &Setting) -> Result<Vec<u8>, AllocEr
     log_text(alloc, &free)
 }
 
-// The log of what number 0 answers.
 fn log_text(alloc: Global, free: &AnswerTable) -> Result<Vec<u8>, AllocError>
     requires { 0 < free.now.numbers }
     ensures { IfOk result (λ text. text.items ≡ lines_from log_line 0 (answers_of free.now.rows 0)) }
@@ -35,7 +35,6 @@ fn log_text(alloc: Global, free: &AnswerTable) -> Result<Vec<u8>, AllocError>
     Ok(text.into_bytes())
 }
 
-// Appends the line of a pattern.
 fn push_line(text: &mut String, free: &AnswerTable, pattern: u32) -> Result<(), AllocError>
     requires pattern { pattern < length free.now.rows }
     requires some { 0 < free.now.numbers }

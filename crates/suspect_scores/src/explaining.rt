@@ -1,4 +1,4 @@
-//! Which failing lines of a log each number explains.
+//! Which failing lines of a log each number explains: a row of bits for each number, one block of lines after another.
 
 ghost use Rattle.std.specs.Prelude.{◌≡◌, ℕ, ◌+◌, ◌%◌, ◌<◌, ◌≤◌, List, length, slice_index, All, IfOk};
 ghost use Rattle.net_model.specs.FaultList.{fault_count};
@@ -11,7 +11,7 @@ ghost use Rattle.ranked_diag.specs.PartialLog.{Line};
 ghost use Rattle.suspect_scores.specs.Marks.{IsLogged, IsMarked};
 ghost use Rattle.suspect_scores.specs.Columns.{AreColumnRows, AreSame, lane_score};
 ghost use Rattle.table_dicts.specs.Blocks.{HasRunPatterns};
-ghost use Rattle.suspect_scores.specs.Benches.{AreLinesNoted, IsNoted, AreNoted};
+ghost use Rattle.suspect_scores.specs.NotedRows.{AreLinesNoted, IsNoted, AreNoted};
 ghost use Rattle.suspect_scores.specs.Chosen.{explained_by};
 
 use crate::block_scores::explained_word;
@@ -20,9 +20,9 @@ use crate::logged::Logged;
 use fault_sim::FaultSim;
 use net_model::AnswerRows;
 use std::alloc::{AllocError, Global};
-use table_dicts::{Bench, Setting};
+use table_dicts::{PatternSim, Setting};
 
-/// For each number a row with a bit for each line: whether it is failing and the number explains it.
+/// Returns for each number a row with a bit for each line: whether the line is failing and the number explains it.
 pub(crate) fn explained_rows(
     alloc: Global,
     setting: &Setting,
@@ -35,14 +35,14 @@ pub(crate) fn explained_rows(
     ensures rows { IfOk result (λ rows. (lines : List Line) (table : Answers) → IsLogged setting.now lines logged.now → AreAnswersAt setting.now table → (place : ℕ) → place < length numbers.now → row_at rows place ≡ explained_by table lines (slice_index numbers.now place)) }
 {
     let patterns = logged.patterns.as_slice();
-    let mut bench = Bench::new(alloc, setting.subject)?;
+    let mut pattern_sim = PatternSim::new(alloc, setting.subject)?;
     let mut rows = AnswerRows::zeros(alloc, numbers.len(), patterns.len())?;
     let mut first = 0;
     while first < patterns.len() {
-        let end = bench.run(patterns, first);
+        let end = pattern_sim.run(patterns, first);
         note_lines(
             &mut rows,
-            &mut bench,
+            &mut pattern_sim,
             &logged.columns,
             first as u32,
             numbers,
@@ -52,26 +52,26 @@ pub(crate) fn explained_rows(
     Ok(rows)
 }
 
-// Notes which lines of the block that was run, from the first one on, each number explains.
+// Notes for each number which lines of the block that was run it explains. Line `first` is the first one of the block.
 fn note_lines(
     rows: &mut AnswerRows,
-    bench: &mut Bench,
+    pattern_sim: &mut PatternSim,
     columns: &LogColumns,
     first: u32,
     numbers: &[u32],
 )
-    requires run { HasRunPatterns bench.old }
-    requires columns { AreColumnRows (length bench.old.good.circuit.positions) columns.now }
+    requires run { HasRunPatterns pattern_sim.old }
+    requires columns { AreColumnRows (length pattern_sim.old.good.circuit.positions) columns.now }
     requires aligned { first % 64 ≡ 0 }
-    requires numbers { All (λ number. number < fault_count bench.old.good.circuit) numbers.now }
+    requires numbers { All (λ number. number < fault_count pattern_sim.old.good.circuit) numbers.now }
     requires rows { length rows.old ≡ length numbers.now }
-    requires wide { All (λ row. first + length bench.old.block.vectors ≤ length row) rows.old }
-    ensures bench { bench.new ≡ record bench.old { sim = bench.new.sim } }
-    ensures run { HasRunPatterns bench.new }
-    ensures noted { AreNoted bench.old.good.circuit bench.old.block.vectors columns.now first rows.old rows.new numbers.now (length numbers.now) }
+    requires wide { All (λ row. first + length pattern_sim.old.block.vectors ≤ length row) rows.old }
+    ensures pattern_sim { pattern_sim.new ≡ record pattern_sim.old { sim = pattern_sim.new.sim } }
+    ensures run { HasRunPatterns pattern_sim.new }
+    ensures noted { AreNoted pattern_sim.old.good.circuit pattern_sim.old.block.vectors columns.now first rows.old rows.new numbers.now (length numbers.now) }
 {
     for (place, number) in numbers.iter().enumerate() {
-        note_number(rows, place, bench, *number, columns, first);
+        note_number(rows, place, pattern_sim, *number, columns, first);
     }
 }
 
@@ -79,26 +79,33 @@ fn note_lines(
 fn note_number(
     rows: &mut AnswerRows,
     row: usize,
-    bench: &mut Bench,
+    pattern_sim: &mut PatternSim,
     number: u32,
     columns: &LogColumns,
     first: u32,
 )
-    requires run { HasRunPatterns bench.old }
-    requires columns { AreColumnRows (length bench.old.good.circuit.positions) columns.now }
+    requires run { HasRunPatterns pattern_sim.old }
+    requires columns { AreColumnRows (length pattern_sim.old.good.circuit.positions) columns.now }
     requires aligned { first % 64 ≡ 0 }
-    requires number { number < fault_count bench.old.good.circuit }
+    requires number { number < fault_count pattern_sim.old.good.circuit }
     requires row { row < length rows.old }
-    requires wide { first + length bench.old.block.vectors ≤ length (row_at rows.old row) }
-    ensures bench { bench.new ≡ record bench.old { sim = bench.new.sim } }
-    ensures run { HasRunPatterns bench.new }
-    ensures noted { IsNoted bench.old.good.circuit bench.old.block.vectors columns.now first rows.old rows.new row number }
+    requires wide { first + length pattern_sim.old.block.vectors ≤ length (row_at rows.old row) }
+    ensures pattern_sim { pattern_sim.new ≡ record pattern_sim.old { sim = pattern_sim.new.sim } }
+    ensures run { HasRunPatterns pattern_sim.new }
+    ensures noted { IsNoted pattern_sim.old.good.circuit pattern_sim.old.block.vectors columns.now first rows.old rows.new row number }
 {
-    bench.inject(number);
-    note_words(rows, row, columns, &bench.sim, first, bench.block.live());
+    pattern_sim.inject(number);
+    note_words(
+        rows,
+        row,
+        columns,
+        &pattern_sim.sim,
+        first,
+        pattern_sim.block.live(),
+    );
 }
 
-// Notes in a row which of so many lines from the first one on are explained by the number that was injected.
+// Notes in a row which of `count` lines, starting at `first`, the injected number explains.
 fn note_words(
     rows: &mut AnswerRows,
     row: usize,

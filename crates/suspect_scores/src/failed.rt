@@ -1,36 +1,28 @@
-//! How many patterns of a log are failing.
+//! Which lines of a log are failing, because an observed bit differs from what number 0 answers, and how many are.
 
-ghost use Rattle.std.specs.Prelude.{◌≡◌, ◌<◌, length, nat_lt, IfOk, if◌then◌else◌};
+ghost use Rattle.std.specs.Prelude.{◌≡◌, ◌<◌, List, length, nat_lt, if◌then◌else◌};
 ghost use Rattle.net_model.specs.Answer.{bit_at};
 ghost use Rattle.net_model.specs.Rows.{row_at};
 ghost use Rattle.dict_rows.specs.AnswerTable.{Answers};
-ghost use Rattle.table_dicts.specs.Setting.{IsScored, AreAnswersAt};
-ghost use Rattle.ranked_diag.specs.PartialLog.{ArePartial};
+ghost use Rattle.table_dicts.specs.declared.setting.Setting.{Setting};
+ghost use Rattle.table_dicts.specs.Setting.{AreAnswersAt};
+ghost use Rattle.ranked_diag.specs.PartialLog.{Line};
+ghost use Rattle.suspect_scores.specs.Marks.{IsLogged};
 ghost use Rattle.suspect_scores.specs.Scores.{failing};
 ghost use Rattle.suspect_scores.specs.Scored.{count_to, row_bits};
 
 use crate::logged::Logged;
 use net_model::AnswerRows;
-use ranked_diag::Partial;
-use std::alloc::{AllocError, Global};
-use table_dicts::Setting;
 
-/// How many patterns of a partial log are failing.
-pub fn count_failing(
-    alloc: Global,
-    setting: &Setting,
-    partial: &Partial,
-) -> Result<usize, AllocError>
-    requires setting { IsScored setting.now }
-    requires partial { ArePartial (length setting.now.patterns.now) (length setting.now.subject.now.positions) partial.now }
-    ensures { IfOk result (λ count. (table : Answers) → AreAnswersAt setting.now table → count ≡ length (failing table partial.now)) }
+/// Returns how many patterns of a partial log are failing: in how many lines an observed bit differs from what number 0
+/// answers.
+pub fn count_failing(logged: &Logged) -> usize
+    ensures { (setting : Setting) (lines : List Line) (table : Answers) → IsLogged setting lines logged.now → AreAnswersAt setting table → result ≡ length (failing table lines) }
 {
-    let logged = Logged::new(alloc, setting, partial)?;
-    let count = count_rows(&logged.marks.wrong);
-    Ok(count)
+    count_rows(&logged.marks.wrong)
 }
 
-/// Whether a line of a log is failing.
+/// Returns whether a line of a log is failing.
 pub fn is_failing(logged: &Logged, line: usize) -> bool
     requires { line < length logged.now.marks.wrong }
     ensures { result ≡ nat_lt 0 (row_bits (row_at logged.now.marks.wrong line)) }
@@ -38,7 +30,7 @@ pub fn is_failing(logged: &Logged, line: usize) -> bool
     count_bits(&logged.marks.wrong, line) > 0
 }
 
-// How many rows have a bit that is set.
+// Returns how many rows have a bit that is set.
 fn count_rows(rows: &AnswerRows) -> usize
     ensures { result ≡ count_to (λ row. nat_lt 0 (row_bits (row_at rows.now row))) (length rows.now) }
 {
@@ -49,7 +41,7 @@ fn count_rows(rows: &AnswerRows) -> usize
     count
 }
 
-// How many bits of a row are set.
+// Returns how many bits of a row are set.
 fn count_bits(rows: &AnswerRows, row: usize) -> usize
     requires { row < length rows.now }
     ensures { result ≡ row_bits (row_at rows.now row) }
@@ -61,7 +53,6 @@ fn count_bits(rows: &AnswerRows, row: usize) -> usize
     count
 }
 
-// 1 for a bit that is set.
 fn as_one(bit: bool) -> usize
     ensures { result ≡ (if bit then 1 else 0) }
 {

@@ -1,4 +1,4 @@
-//! The patterns of a log, and what it tells of them.
+//! The patterns of a log, and what it says of them.
 
 ghost use Rattle.std.specs.Prelude.{◌≡◌, ◌<◌, length, All, IfOk};
 ghost use Rattle.table_dicts.specs.Setting.{IsScored};
@@ -12,7 +12,7 @@ use ranked_diag::Partial;
 use std::alloc::{AllocError, Global};
 use table_dicts::{Setting, number_answers_at};
 
-/// The patterns of a log's lines, and its marks, by line and by position.
+/// The pattern of each line of a log, and its marks by line and by position.
 #[derive(Drop)]
 pub struct Logged {
     pub patterns: Vec<Vector>,
@@ -21,7 +21,7 @@ pub struct Logged {
 }
 
 impl Logged {
-    /// What a partial log tells of its patterns.
+    /// Returns the patterns and the marks of a partial log.
     pub fn new(alloc: Global, setting: &Setting, partial: &Partial) -> Result<Logged, AllocError>
         requires setting { IsScored setting.now }
         requires partial { ArePartial (length setting.now.patterns.now) (length setting.now.subject.now.positions) partial.now }
@@ -41,7 +41,7 @@ impl Logged {
     }
 }
 
-// The pattern of each line.
+// Returns the pattern of each line.
 fn logged_patterns(
     alloc: Global,
     patterns: &[Vector],

@@ -1,4 +1,5 @@
-//! What a log tells of its patterns, against what number 0 answers to them.
+//! The marks of a log. Each line has three rows of bits: what number 0 answers, where an observed bit differs from it,
+//! and where one doesn't.
 
 ghost use Rattle.std.specs.Prelude.{◌≡◌, ◌<◌, ◌&&◌, not, length, All, IfOk};
 ghost use Rattle.net_model.specs.Rows.{row_at};
@@ -19,12 +20,12 @@ pub struct LogMarks {
     pub free: AnswerRows,
     /// Where an observed bit differs from that.
     pub wrong: AnswerRows,
-    /// Where an observed bit doesn't.
+    /// Where an observed bit doesn't differ from that.
     pub right: AnswerRows,
 }
 
 impl LogMarks {
-    /// The marks of a log. The table has what number 0 answers to the pattern of each line.
+    /// Returns the marks of a log. `free` has what number 0 answers to the pattern of each line.
     pub(crate) fn new(
         alloc: Global,
         free: &AnswerTable,
@@ -45,7 +46,6 @@ impl LogMarks {
         Ok(marks)
     }
 
-    // Marks all lines.
     fn mark_all(&mut self, free: &AnswerTable, partial: &Partial)
         requires lines { length free.now.rows ≡ length partial.now }
         requires some { 0 < free.now.numbers }
@@ -60,7 +60,6 @@ impl LogMarks {
         }
     }
 
-    // Marks what was seen of a line.
     fn mark(&mut self, line: usize, seen: &[Seen])
         requires free { line < length self.old.free }
         requires wrong { line < length self.old.wrong }
@@ -80,7 +79,6 @@ impl LogMarks {
     }
 }
 
-/// Sets or clears one bit.
 pub(crate) fn set_bit(rows: &mut AnswerRows, row: usize, at: usize, bit: bool)
     requires row { row < length rows.old }
     requires at { at < length (row_at rows.old row) }
@@ -89,7 +87,7 @@ pub(crate) fn set_bit(rows: &mut AnswerRows, row: usize, at: usize, bit: bool)
     rows.set(row, at, bit);
 }
 
-// Whether a bit was observed and differs from this one.
+// Returns whether a bit was observed and differs from `bit`.
 fn is_wrong(seen: Seen, bit: bool) -> bool
     ensures { result ≡ differs seen bit }
 {
@@ -100,7 +98,7 @@ fn is_wrong(seen: Seen, bit: bool) -> bool
     }
 }
 
-// Whether a bit was observed and is this one.
+// Returns whether a bit was observed and is `bit`.
 fn is_right(seen: Seen, bit: bool) -> bool
     ensures { result ≡ (is_seen seen && not (differs seen bit)) }
 {

@@ -4,7 +4,9 @@ ghost use Rattle.std.specs.Prelude.{◌≡◌, ◌<◌, length, Some, slice_get}
 
 use std::marker::Model;
 
-/// A number, how many failing patterns it explains, and how many bits it hits, misses and puts where none is.
+/// A fault number with its score: how many failing patterns the number explains, at how many positions an observed bit
+/// differs from that of number 0 and the number's bit does too (`hit_bits`) or doesn't (`missed_bits`), and at how many
+/// an observed bit doesn't differ but the number's does (`false_bits`).
 #[derive(Clone, Copy, Debug, PartialEq, Eq)]
 pub struct Suspect {
     pub number: u32,
@@ -30,7 +32,6 @@ impl Model for Suspects {
 }
 
 impl Suspects {
-    // The list of these.
     pub(crate) fn of(listed: Vec<Suspect>) -> Suspects
         ensures { result ≡ listed.items }
     {

@@ -36,7 +36,7 @@ KnownBefore known (written_input n ∷ ws) = KnownBefore known ws
 KnownBefore known (written_output n ∷ ws) = KnownBefore known ws
 KnownBefore known (written_gate n word pins ∷ ws) = All (Contains known) pins × KnownBefore (known ++ n ∷ []) ws
 
--- the word of a gate is no flip-flop's
+-- the word of the gate isn't that of a flip-flop
 abbrev pub HasKind : Written → Type 0
 HasKind (written_input n) = Unit {0}
 HasKind (written_output n) = Unit {0}
@@ -105,7 +105,7 @@ module _ (names : List (List ℕ)) where
 both : (known : List (List ℕ)) (a b : List ℕ) → Contains known a → Contains known b → All (Contains known) (a ∷ b ∷ [])
 both known a b pa pb = All-cons (Contains known) a (b ∷ []) pa (All-cons (Contains known) b [] pb (All-nil (Contains known)))
 
--- a name that is known stays so, and the one that is added is known
+-- a name that is known stays known, and the one that is added is known
 kept : (known : List (List ℕ)) (a b : List ℕ) → Contains known a → Contains (known ++ b ∷ []) a
 kept known a b has = Contains-append_left known (b ∷ []) a has
 

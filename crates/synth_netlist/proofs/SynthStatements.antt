@@ -22,7 +22,7 @@ use Rattle.synth_netlist.specs.Synth.{signal, input_line, output_line, gate_line
 
 -- ---- names: the carry into the first cell, then six of each cell
 
--- the letter of a place in a cell
+-- the letter of a signal at a place in a cell
 abbrev letter : ℕ → ℕ
 letter zero = 99
 letter (suc zero) = 120
@@ -96,7 +96,7 @@ synth_lines n =
 
 -- ---- words
 
--- the word of a gate says a kind that two pins suit
+-- the word of a gate is that of a kind which takes two pins
 abbrev pub IsGateWord : List ℕ → Type 0
 IsGateWord word = (kind : Kind) × (driver_of word ≡ Some (gate_driver kind)) × IsTrue (takes (gate_driver kind) 2) × IsRun word × (length word ≤ 4)
 
@@ -171,7 +171,7 @@ all_seven P a b c d e f g pa pb pc pd pe pf pg =
     All-cons P a (b ∷ c ∷ d ∷ e ∷ f ∷ g ∷ []) pa (All-cons P b (c ∷ d ∷ e ∷ f ∷ g ∷ []) pb (All-cons P c (d ∷ e ∷ f ∷ g ∷ []) pc
     (All-cons P d (e ∷ f ∷ g ∷ []) pd (All-cons P e (f ∷ g ∷ []) pe (All-cons P f (g ∷ []) pf (All-cons P g [] pg (All-nil P)))))))
 
--- It holds of inputs, outputs and gates with two pins whose names have places.
+-- `P` holds of inputs, outputs and gates with two pins whose names have places.
 pub record HoldsOf (n : ℕ) (P : Written → Type 0) : Type 0 where
   pub input : (name : List ℕ) → Placed n name → P (written_input name)
   pub output : (name : List ℕ) → Placed n name → P (written_output name)

@@ -21,7 +21,7 @@ pub record HasAcceptedNetlist (n : ℕ) : Type 0 where
   -- The gates of its cut form no loop.
   pub circuit : IsCircuit (cut_circuit netlist)
 
--- that of each number
+-- The netlist of each number up to 2,000 is accepted.
 abbrev pub NumbersAccepted : Type 0
 NumbersAccepted = (n : ℕ) → n ≤ 2000 → HasAcceptedNetlist n
 
@@ -30,6 +30,6 @@ pub record NeverRefused (bytes : List ℕ) : Type 0 where
   pub text : (refusal : NetKind × ℕ) → TextRefused bytes refusal → ⊥
   pub loops : (netlist : Netlist) (place : Place) (names : List (List ℕ)) → IsNetlist bytes netlist → IsNetlistLoop netlist place names → ⊥
 
--- That of the netlist of each number.
+-- The netlist of each number up to 2,000 is never refused.
 abbrev pub NumbersNeverRefused : Type 0
 NumbersNeverRefused = (n : ℕ) → n ≤ 2000 → NeverRefused (synth_text n)

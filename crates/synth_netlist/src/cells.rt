@@ -13,8 +13,8 @@ use rand_xoshiro::SplitMix64;
 use scan_cut::ordered_has_no_loop;
 use std::alloc::{AllocError, Global};
 
-/// The netlist of a number from 1 to 2,000. The outputs of the generator SplitMix64 (Steele, Lea and Flood, 2014), with
-/// the number as the seed, choose the gates of its cells.
+/// Returns the netlist of a number from 1 to 2,000 as text. The outputs of the generator SplitMix64 (Steele, Lea and
+/// Flood, 2014), with the number as its seed, choose the gates of the cells.
 pub fn synth_text(alloc: Global, n: u32) -> Result<Vec<u8>, AllocError>
     requires least { 1 ≤ n }
     requires most { n ≤ 2000 }
@@ -28,8 +28,8 @@ pub fn synth_text(alloc: Global, n: u32) -> Result<Vec<u8>, AllocError>
     Ok(text)
 }
 
-/// The netlist of a number is accepted: its text spells statements that are right together, and each gate reads what is
-/// known before it. So the cut of what it reads as is a circuit.
+/// The netlist of each number up to 2,000 is accepted: its text spells statements that are right together, and each
+/// gate reads what is known before it. So the cut of what it reads as is a circuit.
 pub fn each_number_is_accepted()
     ensures { NumbersAccepted }
 {
@@ -39,8 +39,8 @@ pub fn each_number_is_accepted()
     no_loop_is_circuit();
 }
 
-/// The netlist of a number is never refused: its text spells statements that are right together, and each gate reads what
-/// is known before it.
+/// The netlist of a number up to 2,000 is never refused: its text spells statements that are right together, and each
+/// gate reads what is known before it.
 pub fn no_number_is_refused()
     ensures { NumbersNeverRefused }
 {
@@ -80,7 +80,7 @@ fn push_gates(text: &mut Vec<u8>, output: u64, cell: u32) -> Result<(), AllocErr
     push_gate(text, "p", cell, gate_word(output, 0), "x", "y", cell)?;
     push_gate(text, "q", cell, gate_word(output, 1), "x", "c", cell)?;
     push_gate(text, "s", cell, gate_word(output, 2), "p", "q", cell)?;
-    // It drives the carry into the next cell.
+    // this gate drives the carry into the next cell
     push_gate(text, "c", cell + 1, gate_word(output, 3), "p", "c", cell)
 }
 
@@ -105,7 +105,7 @@ fn ports(alloc: Global, cell: u32) -> Result<String, AllocError>
     format!(in alloc; "INPUT(x{cell})\nINPUT(y{cell})\nOUTPUT(s{cell})\n")
 }
 
-// A gate that drives the signal of a letter and a number, from two signals of a cell.
+// Returns the line of a gate that drives one signal, given by letter and number, from two signals of a cell.
 fn gate_line(
     alloc: Global,
     driven: &str,
@@ -120,7 +120,7 @@ fn gate_line(
     format!(in alloc; "{driven}{number}={word}({first}{cell},{second}{cell})\n")
 }
 
-// The word of a gate of a cell with this output: three of its bits choose it.
+// Returns the word of a gate of the cell with this output: three of the output's bits choose it.
 #[tactic(auto, unfolding(crate::specs::Synth::gate_word))]
 fn gate_word(output: u64, gate: u32) -> &'static str
     requires { gate < 4 }

@@ -17,11 +17,11 @@ use Rattle.dict_rows.specs.Grouped.{IsGrouped, group_row}
 use Rattle.table_dicts.specs.Apart.{has_apart, apart_count}
 use Rattle.dict_rows.proofs.EntryLemmas.{same_bits-Decides}
 
--- how many of the first classes have their representative in a group
+-- How many of the first classes have their representative in a group.
 abbrev pub alike_to : ClassTable → List ℕ → ℕ → ℕ → ℕ
 alike_to t groups classes group = count_by (λ low. eqb (get_or groups (representative t low) 0) group) (range_with_len 0 classes)
 
--- the pairs that are apart, the higher class among the first ones
+-- The pairs that differ, with the higher class among the first ones.
 abbrev pub apart_to : ClassTable → (ℕ → List Bool) → ℕ → ℕ
 apart_to t entry classes = sum_by (λ high. count_by (λ low. has_apart t entry low high) (range_with_len 0 high)) (range_with_len 0 classes)
 
@@ -48,7 +48,7 @@ one_of true false e = refl
 one_of false true e = refl
 one_of false false e = absurd (cc)
 
--- what passes a test and what doesn't are all
+-- What passes a test and what doesn't are all.
 parts : (p q : ℕ → Bool) (xs : List ℕ) → All (λ x. p x ≡ not (q x)) xs → count_by p xs + count_by q xs ≡ length xs
 parts p q [] all = refl
 parts p q (x ∷ xs) all =
@@ -58,14 +58,14 @@ module _ (t : ClassTable) (whole : IsWhole t) (numbers : ℕ) (groups : List ℕ
   abbrev group_at : ℕ → ℕ
   group_at low = get_or groups (representative t low) 0
 
-  -- the group of a representative has an entry row
+  -- The group of a representative has an entry row.
   pub in_groups : (low : ℕ) → low < class_count t → representative t low < length groups
   in_groups low l = omega (arith, (representative-member t whole low l).0, same, is.one_each)
 
   pub group_known : (low : ℕ) → low < class_count t → group_at low < length entries
   group_known low l = (is.used (group_at low)).0 (Contains-get_or groups (representative t low) 0 (in_groups low l))
 
-  -- two representatives have the same entry where they are in one group
+  -- Two representatives have the same entry exactly if they are in one group.
   same_group : (low : ℕ) → low < class_count t → same_bits (group_row groups entries (representative t low)) (group_row groups entries (representative t class)) ≡ eqb (group_at low) (group_at class)
   same_group low l =
       let a = group_row groups entries (representative t low) in
@@ -81,7 +81,7 @@ module _ (t : ClassTable) (whole : IsWhole t) (numbers : ℕ) (groups : List ℕ
       let q : ℕ → Bool = λ low. eqb (group_at low) (group_at class) in
       omega (arith, parts p q (range_with_len 0 class) (All-range_with_len (λ low. p low ≡ not (q low)) 0 class (λ low from below. ap not (same_group low (omega (arith, below, h))))), length-range_with_len 0 class)
 
-  -- one class more in its group
+  -- One class more in its group.
   pub alike_after : (alike : List ℕ) (count : ℕ) → length alike ≡ length entries → ((group : ℕ) → group < length entries → get_or alike group 0 ≡ alike_to t groups class group) → count ≡ get_or alike (group_at class) 0 + 1
       → (group : ℕ) → group < length entries → get_or (set alike (group_at class) count) group 0 ≡ alike_to t groups (class + 1) group
   alike_after alike count long are more group inside = elim (cases_eq group (group_at class)) [

@@ -52,7 +52,7 @@ numbers_more {right} {count} {old} {mid} {new} {number} {first} positions so_far
 
 -- ---- that it is right
 
--- the vector of a lane of a block is a pattern
+-- The vector of a lane of a block is a pattern.
 pub lane_pattern : (patterns : List (List Bool)) (first end lane : ℕ) → lane < end - first → get_or (slice_range patterns first end) lane [] ≡ get_or patterns (first + lane) []
 lane_pattern patterns first end lane h = get_or-take (end - first) (drop first patterns) lane [] h ∙ get_or-drop first patterns lane []
 
@@ -62,7 +62,7 @@ block_length patterns first end order within = length-take-le (end - first) (dro
 pub right_none : (right : ℕ → ℕ → ℕ → Bool → Type 0) (patterns numbers positions : ℕ) (t : Answers) → HasSizes t patterns numbers positions → AreRightBits right patterns numbers positions 0 t
 right_none right patterns numbers positions t sizes = record { sizes = sizes; each = λ p n k hp hn hk. absurd (omega (arith, hp)) }
 
--- a block more, whose bits are right where they stand
+-- One more block, whose written bits are right.
 pub right_more : {right over : ℕ → ℕ → ℕ → Bool → Type 0} {patterns numbers positions count first : ℕ} {old new : Answers} (end : ℕ) → AreRightBits over patterns numbers positions first old → AreNumbersSet right count old new numbers first
     → ((lane n k : ℕ) (bit : Bool) → lane < count → right lane n k bit → over (first + lane) n k bit) → end ≡ first + count → end ≤ patterns → AreRightBits over patterns numbers positions end new
 right_more {right} {over} {patterns} {numbers} {positions} {count} {first} {old} {new} end so_far one moved is within = record {
@@ -83,7 +83,7 @@ right_more {right} {over} {patterns} {numbers} {positions} {count} {first} {old}
 }
 
 module _ (c : Circuit) (patterns vectors : List (List Bool)) (first end : ℕ) (is : vectors ≡ slice_range patterns first end) (order : first ≤ end) (within : end ≤ length patterns) where
-  -- the vectors of a block are patterns
+  -- The vectors of a block are patterns.
   pub block_end : end ≡ first + length vectors
   block_end = omega (arith, ap length is, block_length patterns first end order within, order)
 
@@ -104,7 +104,7 @@ module _ (c : Circuit) (patterns vectors : List (List Bool)) (first end : ℕ) (
   pub listed_moved : (kept : Kept) (numbers : List ℕ) (lane place k : ℕ) (bit : Bool) → lane < length vectors → IsListedBit kept c vectors numbers lane place k bit → IsListedBit kept c patterns numbers (first + lane) place k bit
   listed_moved kept numbers lane place k bit h right = kept_moved kept lane (get_or numbers place 0) k bit h right
 
--- a table whose bits are all right has the circuit's answers
+-- A table whose bits are all right has the circuit's answers.
 pub right_all : {c : Circuit} {patterns : List (List Bool)} {t : Answers} (end : ℕ) → IsCircuit c → IsTable t → AreRightBits (IsAnswerBit c patterns) (length patterns) (fault_count c) (length c.positions) end t → length patterns ≤ end → AreAnswers c patterns t
 right_all {c} {patterns} {t} end is table right over =
     let rows = rows_exist c is patterns in
@@ -135,7 +135,7 @@ flipped false true false h = absurd (false≢true (h.1 false≢true))
 flipped false false true h = absurd (h.0 refl refl)
 flipped false false false h = refl
 
--- the fault-free bit, turned where the fault differs, is that of the fault's answer
+-- The fault-free bit, turned where the fault differs, is that of the fault's answer.
 pub shown_bit : (c : Circuit) → IsCircuit c → (f : Fault) (v answer : List Bool) (position line : ℕ) (good differs : Bool) → position < length c.positions → line ≡ get_or c.positions position 0
     → ((answer free : List Bool) → IsAnswer c f v answer → IsAnswer c Free v free → IsTrue differs ↔ (bit_at answer position ≢ bit_at free position))
     → ((bits : List Bool) → Agrees c Free v bits → good ≡ bit_at bits line) → IsAnswer c f v answer → cond good (not differs) differs ≡ bit_at answer position
@@ -160,7 +160,7 @@ range_more patterns first at v order inside is =
     ∙ (take_more rest (at - first) v (omega (arith, length-drop first patterns, order, inside))
     ∙ ap (λ (x : List Bool). take (at - first) rest ++ x ∷ []) (get_or-drop first patterns (at - first) v ∙ (ap (λ j. get_or patterns j v) place ∙ sym is)))
 
--- the lane of a block in which some position differs
+-- The lane of a block at which some position differs.
 pub fail_bit : (c : Circuit) (f : Fault) (v answer free : List Bool) (bit : Bool) (differs : ℕ → Bool) → IsAnswer c f v answer → IsAnswer c Free v free
     → ((position : ℕ) → position < length c.positions → IsTrue (differs position) ↔ (bit_at answer position ≢ bit_at free position))
     → IsTrue bit ↔ ((position : ℕ) × (position < length c.positions) × IsTrue (differs position)) → bit ≡ not (same_bits answer free)

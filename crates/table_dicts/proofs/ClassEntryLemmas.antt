@@ -1,4 +1,4 @@
--- Entries of classes, in groups, are those of all numbers.
+-- Entries of classes in groups are those of all numbers.
 use Rattle.std.proofs.Common.{◌≡◌, ◌∙◌, ℕ, ◌<◌, ◌≤◌, Bool, false, List, [], length, get_or, map, replicate, sym, ap, subst, arith, All}
 use Rattle.std.specs.List.{range_with_len}
 use Rattle.std.proofs.lemmas.List.{get_or-map, length-map, length-replicate}
@@ -12,7 +12,7 @@ use Rattle.dict_rows.proofs.GroupLemmas.{few_firsts}
 use Rattle.dict_rows.proofs.RegroupLemmas.{groups_over}
 
 module _ (t : ClassTable) where
-  -- a row for each number, which is as long as the number of its class
+  -- A row for each number, as long as the number of its class.
   abbrev mark : ℕ → List Bool
   mark n = replicate (class_at t n) false
 
@@ -34,7 +34,7 @@ module _ (t : ClassTable) where
     );
   }
 
--- groups of numbers by their classes
+-- Groups of numbers by their classes.
 module _ (t : ClassTable) (numbers : ℕ) (all : numbers ≡ length t.class_of) (groups firsts : List ℕ) (sorted : (rows : List (List Bool)) → AreRowsOfClasses t rows → AreFirstsOf rows numbers groups firsts) where
   by : AreFirstsOf (marks t) (length (marks t)) groups firsts
   by = subst (λ n. AreFirstsOf (marks t) n groups firsts) (all ∙ sym (marks_are t).one_each) (sorted (marks t) (marks_are t))
@@ -52,7 +52,7 @@ module _ (t : ClassTable) (numbers : ℕ) (all : numbers ≡ length t.class_of) 
     pub cells_long : length cells ≡ length firsts
     cells_long = ap length cells_are ∙ (length-map (map (class_at t) firsts) (row_at entries) ∙ length-map firsts (class_at t))
 
-    -- the cell of a number's group is the entry of its class
+    -- The cell of a number's group is the entry of its class.
     cell_is : (n : ℕ) → n < length t.class_of → row_at cells (get_or groups n 0) ≡ row_at entries (class_at t n)
     cell_is n h =
         let group = get_or groups n 0 in
@@ -63,7 +63,7 @@ module _ (t : ClassTable) (numbers : ℕ) (all : numbers ≡ length t.class_of) 
         ∙ (get_or-map (row_at entries) (map (class_at t) firsts) group 0 [] (omega (arith, known, length-map firsts (class_at t)))
         ∙ ap (row_at entries) (get_or-map (class_at t) firsts group 0 0 known ∙ together))
 
-    -- so numbers are in the groups of their groups' cells
+    -- Numbers are in the groups of their groups' cells.
     pub groups_of_numbers : {rows out : List (List Bool)} {outer : List ℕ} → length rows ≡ numbers → ((n : ℕ) → n < length t.class_of → row_at entries (class_at t n) ≡ row_at rows n)
         → AreGroupsOf cells outer out → AreGroupsOf rows (map (λ group. get_or outer group 0) groups) out
     groups_of_numbers {rows} {out} {outer} long own grouped =

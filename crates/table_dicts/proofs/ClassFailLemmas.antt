@@ -1,4 +1,4 @@
--- Pass/fail entries by classes: that of a class's lowest number is that of each of its numbers.
+-- The pass/fail entry of a class's lowest number is that of each of its numbers.
 use Rattle.std.proofs.Common.{◌≡◌, ◌∙◌, ℕ, ◌<◌, Bool, List, [], length, get_or, map, sym, ap, arith}
 use Rattle.std.specs.List.{range_with_len}
 use Rattle.std.specs.Prelude.{All}
@@ -20,7 +20,7 @@ use Rattle.table_dicts.proofs.FailLemmas.{is_table, fails_are}
 use Rattle.table_dicts.proofs.ClassLemmas.{entries_of, entry_at, same_answers, entries_of_classes}
 
 module _ (c : Circuit) (is : IsCircuit c) (patterns : List (List Bool)) (t : Answers) (are : AreAnswers c patterns t) where
-  -- numbers with the same answers have the same pass/fail entry
+  -- Numbers with the same answers have the same pass/fail entry.
   same_fail : (m n : ℕ) → m < t.numbers → n < t.numbers → row_at (entries_of t) m ≡ row_at (entries_of t) n → pass_fail_entry t.rows m ≡ pass_fail_entry t.rows n
   same_fail m n hm hn same =
       let entries : full_entry t.rows m ≡ full_entry t.rows n = sym (entry_at c is patterns t are m hm) ∙ (same ∙ entry_at c is patterns t are n hn) in

@@ -10,7 +10,8 @@ use Rattle.dict_rows.specs.Grouped.{AreFirstsOf}
 use Rattle.table_dicts.specs.ByClass.{AreRowsOfClasses}
 use Rattle.dict_rows.proofs.GroupLemmas.{firsts_with, firsts_none, begins, joins}
 
--- The numbers below a limit are in groups by their classes. The first of each group is the lowest of its class, and the group of a class that has begun is noted.
+-- The numbers below `done` are in groups by their classes. The first of each group is the lowest of its class, and the
+-- group of each class that has begun is noted.
 pub record AreBegun (t : ClassTable) (done : ℕ) (groups firsts noted : List ℕ) : Type 0 where
   pub few : length firsts ≤ done
   pub sorted : (rows : List (List Bool)) → AreRowsOfClasses t rows → AreFirstsOf rows done groups firsts
@@ -27,7 +28,7 @@ begun_none t = record {
   known = λ class h low. absurd (omega (arith, low));
 }
 
--- what is noted once a number has come
+-- What is noted once a number has come.
 abbrev pub noted_with : ClassTable → List ℕ → ℕ → ℕ → List ℕ
 noted_with t noted i next = cond (eqb (representative t (class_at t i)) i) (set noted (class_at t i) next) noted
 
@@ -47,11 +48,11 @@ module _ (t : ClassTable) (whole : IsWhole t) (i : ℕ) (h : i < length t.class_
   last_first : get_or (firsts ++ i ∷ []) count 0 ≡ i
   last_first = get_or_push firsts i 0 count refl
 
-  -- another class isn't begun by this number
+  -- Another class isn't begun by this number.
   other_class : (k : ℕ) → k < class_count t → k ≢ class → representative t k ≢ i
   other_class k hk ne e = ne (sym (representative-member t whole k hk).1 ∙ ap (class_at t) e)
 
-  -- a number that is the lowest of its class begins a group
+  -- A number that is the lowest of its class begins a group.
   pub first_comes : representative t class ≡ i → AreBegun t (i + 1) (groups ++ count ∷ []) (firsts ++ i ∷ []) (set noted class count)
   first_comes first =
       let noted_at : get_or (set noted class count) class 0 ≡ count = get_or-set_same noted class count 0 (omega (arith, are.places, inside)) in
@@ -74,7 +75,7 @@ module _ (t : ClassTable) (whole : IsWhole t) (i : ℕ) (h : i < length t.class_
         ];
       }
 
-  -- any other comes into the group of its class
+  -- Any other number goes into the group of its class.
   before : representative t class ≢ i → representative t class < i
   before ne = omega (arith, (representative_lowest t i h).within, ne)
 
@@ -98,7 +99,7 @@ module _ (t : ClassTable) (whole : IsWhole t) (i : ℕ) (h : i < length t.class_
         ];
       }
 
-  -- the group that a number comes into, by what is noted after it has come
+  -- The group of a number, by what is noted after it has come.
   pub record Comes (group : ℕ) (after : List ℕ) : Type 0 where
     pub within : group ≤ count
     pub begun : AreBegun t (i + 1) (groups ++ group ∷ []) (firsts_with firsts group i) after

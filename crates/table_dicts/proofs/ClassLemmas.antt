@@ -1,4 +1,4 @@
--- Classes of numbers, and the entries of full-response dictionaries: two numbers are of one class exactly where their entries are equal.
+-- Two numbers are of one class exactly if their full-response entries are equal.
 use Rattle.std.proofs.Common.{◌≡◌, ◌∙◌, ◌↔◌, ℕ, zero, suc, ◌*◌, ◌<◌, Bool, List, [], ◌∷◌, ◌++◌, length, get_or, map, take, fold, refl, sym, ap, subst, arith}
 use Rattle.std.specs.Prelude.{flat_map, All}
 use Rattle.std.specs.List.{range_with_len}
@@ -29,7 +29,7 @@ use Rattle.table_dicts.proofs.FailLemmas.{is_table, answers_listed}
 
 -- ---- classes and answers
 
--- two numbers answer alike in each row
+-- Two numbers answer alike in each row.
 abbrev pub AreAlike : List (List (List Bool)) → ℕ → ℕ → Type 0
 AreAlike rows m n = (p : ℕ) → p < length rows → answer_in (get_or rows p []) m ≡ answer_in (get_or rows p []) n
 
@@ -38,7 +38,7 @@ module _ (m n : ℕ) where
   one_more row rows first rest zero h = first
   one_more row rows first rest (suc p) h = rest p (omega (arith, h))
 
-  -- numbers that are together after more rows were together before, and answered alike since
+  -- Numbers that are together after more rows were together before, and answered alike since.
   together_was : (rows : List (List (List Bool))) (t : ClassTable) → IsSound t → m < length t.class_of → n < length t.class_of
       → class_at (fold refined_table t rows) m ≡ class_at (fold refined_table t rows) n → (class_at t m ≡ class_at t n) × AreAlike rows m n
   together_was [] t sound hm hn same = (same, λ p h. absurd (omega (arith, h)))
@@ -48,7 +48,7 @@ module _ (m n : ℕ) where
       let now = same_after t row sound m n hm hn (sym (class-refined t row m hm) ∙ (later.0 ∙ class-refined t row n hn)) in
       (now.0, one_more row rows now.1 later.1)
 
-  -- and those that were together and answered alike since are together
+  -- Numbers that were together and answered alike since are together.
   together_since : (rows : List (List (List Bool))) (t : ClassTable) → m < length t.class_of → n < length t.class_of → class_at t m ≡ class_at t n → AreAlike rows m n
       → class_at (fold refined_table t rows) m ≡ class_at (fold refined_table t rows) n
   together_since [] t hm hn same alike = same
@@ -57,7 +57,7 @@ module _ (m n : ℕ) where
       let now = class-refined t row m hm ∙ (after_same t row m n hm hn same (alike 0 (omega arith)) ∙ sym (class-refined t row n hn)) in
       together_since rows (refined_table t row) (omega (arith, hm, long)) (omega (arith, hn, long)) now (λ p h. alike (suc p) (omega (arith, h)))
 
--- two numbers are of one class exactly where they answer alike in each row
+-- Two numbers are of one class exactly if they answer alike in each row.
 pub together_where_alike : (numbers m n : ℕ) (rows : List (List (List Bool))) → m < numbers → n < numbers → (class_at (class_table numbers rows) m ≡ class_at (class_table numbers rows) n) ↔ AreAlike rows m n
 together_where_alike numbers m n rows hm hn =
     let long = length-replicate {A = ℕ} numbers 0 in
@@ -69,20 +69,20 @@ together_where_alike numbers m n rows hm hn =
 
 -- ---- answers and entries
 
--- parts one behind another
+-- Pieces one after another.
 abbrev joined : List (List Bool) → List Bool
 joined parts = flat_map (λ part. part) parts
 
 joined_more : (x : List Bool) (xs : List (List Bool)) → joined (x ∷ xs) ≡ x ++ joined xs
 joined_more x xs = let same : List Bool → List Bool = λ part. part in flat_map-cons same x xs
 
--- an entry has the answers one behind another
+-- An entry has the answers one after another.
 entry_of_answers : (rows : List (List (List Bool))) (n : ℕ) → full_entry rows n ≡ joined (answers_of rows n)
 entry_of_answers [] n = refl
 entry_of_answers (row ∷ rows) n =
     flat_map-cons (λ row. answer_in row n) row rows ∙ (ap (λ (rest : List Bool). answer_in row n ++ rest) (entry_of_answers rows n) ∙ sym (joined_more (answer_in row n) (answers_of rows n)))
 
--- parts of one width are those of the whole
+-- If the whole is the same, pieces of one width are the same.
 same_parts : (width : ℕ) (xs ys : List (List Bool)) → length xs ≡ length ys → All (λ x. length x ≡ width) xs → All (λ y. length y ≡ width) ys → joined xs ≡ joined ys → xs ≡ ys
 same_parts width [] [] long wx wy e = refl
 same_parts width [] (y ∷ ys) long wx wy e = absurd (omega (arith, long))
@@ -101,13 +101,13 @@ length-parts width (x ∷ xs) all =
     omega (arith, ap length (joined_more x xs), length-append x (joined xs), All-head (λ z. length z ≡ width) x xs all, length-parts width xs (All-tail (λ z. length z ≡ width) x xs all))
 
 module _ (t : Answers) (is : IsTable t) where
-  -- an entry has a bit for each pattern and position
+  -- An entry has a bit for each pattern and position.
   pub length-full : (n : ℕ) → n < t.numbers → length (full_entry t.rows n) ≡ length t.rows * t.positions
   length-full n h =
       ap length (entry_of_answers t.rows n)
       ∙ (length-parts t.positions (answers_of t.rows n) (answers_are t is n h).width_is ∙ ap (λ k. k * t.positions) (length-answers t n))
 
-  -- equal entries are those of equal answers
+  -- Equal entries are those of equal answers.
   pub same_answers : (m n : ℕ) → m < t.numbers → n < t.numbers → full_entry t.rows m ≡ full_entry t.rows n → answers_of t.rows m ≡ answers_of t.rows n
   same_answers m n hm hn same =
       let one = answers_are t is m hm in
@@ -125,7 +125,7 @@ module _ (t : Answers) (is : IsTable t) where
         λ same p h. sym (answer_of_at t p m h) ∙ (ap (λ (answers : List (List Bool)). row_at answers p) (same_answers m n hm hn same) ∙ answer_of_at t p n h),
       )
 
--- the entries of all numbers
+-- The entries of all numbers.
 abbrev pub entries_of : Answers → List (List Bool)
 entries_of t = map (full_entry t.rows) (range_with_len 0 t.numbers)
 
@@ -144,7 +144,7 @@ module _ (c : Circuit) (is : IsCircuit c) (patterns : List (List Bool)) (t : Ans
         ap length (get_or-map-range_with_len (full_entry t.rows) 0 t.numbers k k d inside (omega arith)) ∙ length-full t table k inside;
   }
 
-  -- the answers have one table
+  -- The answers have one table.
   pub entries_of_classes : (classes : ClassTable) → IsTableOf c patterns classes → AreRowsOfClasses classes (entries_of t)
   entries_of_classes classes of =
       let numbers = table_numbers of in
@@ -162,7 +162,7 @@ module _ (c : Circuit) (is : IsCircuit c) (patterns : List (List Bool)) (t : Ans
             );
       }
 
-  -- right bits of listed numbers are the entries of these numbers
+  -- Right bits of listed numbers are the entries of these numbers.
   module _ (numbers : List ℕ) (inside : All (λ number. number < fault_count c) numbers) (listed : Answers) (whole : IsTable listed)
       (right : AreRightBits (IsListedBit Bits c patterns numbers) (length patterns) (length numbers) (length c.positions) (length patterns) listed) where
     pub entry_listed : (place : ℕ) → place < length numbers → full_entry listed.rows place ≡ full_entry t.rows (get_or numbers place 0)
@@ -183,7 +183,7 @@ module _ (c : Circuit) (is : IsCircuit c) (patterns : List (List Bool)) (t : Ans
 
 module _ (c : Circuit) (is : IsCircuit c) (patterns : List (List Bool)) (classes : ClassTable) (of : IsTableOf c patterns classes) (numbers : ℕ) (all : numbers ≡ fault_count c) (groups firsts : List ℕ)
     (sorted : (rows : List (List Bool)) → AreRowsOfClasses classes rows → AreFirstsOf rows numbers groups firsts) where
-  -- the groups are those of equal entries
+  -- The groups are those of equal entries.
   pub firsts_by : (t : Answers) → AreAnswers c patterns t → AreFirstsOf (entries_of t) (length (entries_of t)) groups firsts
   firsts_by t are =
       let long : numbers ≡ length (entries_of t) = all ∙ (sym are.numbers ∙ sym (entries_are c is patterns t are).count_is) in

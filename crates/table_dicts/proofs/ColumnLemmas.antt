@@ -35,7 +35,7 @@ same_lane true false x is off = absurd (false≢true (sym off ∙ is))
 same_lane false true x is off = absurd (false≢true (sym off ∙ is))
 same_lane false false x is off = refl
 
--- where the lanes are those that stand there, nothing is to be written
+-- If the lanes are those already written, nothing has to be written.
 pub column_stands : (free lanes differ : List Bool) (any : Bool) (count : ℕ) (t : Answers) (number first position : ℕ) → any ≡ false → (IsTrue any ↔ ((lane : ℕ) × (lane < LANES) × IsTrue (bit_at differ lane)))
     → ((lane : ℕ) → lane < LANES → bit_at differ lane ≡ cond (bit_at lanes lane) (not (bit_at free lane)) (bit_at free lane)) → count ≤ LANES
     → ((lane : ℕ) → lane < count → answer_bit t (first + lane) number position ≡ bit_at free lane) → IsColumnSet lanes count t t number first position
@@ -50,7 +50,7 @@ column_stands free lanes differ any count t number first position none found is 
 
 -- ---- a table of one number, position by position
 
--- The table has the first lanes, so many, and no bit of a later position is set.
+-- The table has the first `done` lanes, and no bit of a later position is set.
 pub record HasLanesBegun (width : ℕ) (lanes : List (List Bool)) (t : Answers) (done : ℕ) : Type 0 where
   pub sizes : HasSizes t LANES 1 width
   pub long : length lanes ≡ done
@@ -81,7 +81,7 @@ lanes_more {width} {position} {lanes} {column} {old} {new} so_far one inside =
 
 -- ---- all positions, one after another
 
--- below a limit the bits are right, and from it on those of the free lanes
+-- Below a limit the bits are right; at and above it they are those of the free lanes.
 pub record IsEither (right : ℕ → ℕ → Bool → Type 0) (free : List (List Bool)) (limit lane number k : ℕ) (bit : Bool) : Type 0 where
   pub written : k < limit → right lane k bit
   pub copied : limit ≤ k → bit ≡ bit_at (get_or free k []) lane

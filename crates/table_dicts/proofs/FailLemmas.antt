@@ -1,4 +1,4 @@
--- Pass/fail entries from where answers differ from the fault-free ones.
+-- Pass/fail entries, made from where answers differ from the fault-free ones.
 use Rattle.std.proofs.Common.{◌≡◌, ◌∙◌, ℕ, ◌<◌, Bool, false, not, List, [], ◌∷◌, ◌++◌, length, get_or, map, refl, sym, ap, subst, arith}
 use Rattle.std.specs.Prelude.{flat_map, All}
 use Rattle.std.proofs.lemmas.List.{ext_get_or, get_or-map, get_or_default, length-map}
@@ -44,7 +44,7 @@ module _ (bits : Answers) (is : IsTable bits) (one : bits.positions ≡ 1) (numb
   pub length-entry_is : length (full_entry bits.rows number) ≡ length bits.rows
   length-entry_is = ap length entry_is ∙ length-map bits.rows (λ row. bit_at (answer_in row number) 0)
 
--- number 0 is the fault-free circuit
+-- Number 0 is the fault-free circuit.
 first_is_free : (c : Circuit) → fault_numbered c 0 ≡ Free
 unfolding faults
 first_is_free c = refl
@@ -68,7 +68,7 @@ module _ (c : Circuit) (patterns : List (List Bool)) (t : Answers) (are : AreAns
     positions = λ p n hp hn. answer_width (answer_is p n (omega (arith, hp, patterns_are)) (omega (arith, hn, are.numbers))) ∙ sym are.positions;
   }
 
-  -- right answers of listed numbers are the answers of these numbers
+  -- Right answers of listed numbers are the answers of these numbers.
   module _ (numbers : List ℕ) (inside : All (λ number. number < fault_count c) numbers) (listed : Answers) (whole : IsTable listed)
       (right : AreRightBits (IsListedBit Bits c patterns numbers) (length patterns) (length numbers) (length c.positions) (length patterns) listed) where
     pub answer_listed : (p place : ℕ) → p < length patterns → place < length numbers → answer_to listed p place ≡ answer_to t p (get_or numbers place 0)
@@ -85,11 +85,11 @@ module _ (c : Circuit) (patterns : List (List Bool)) (t : Answers) (are : AreAns
         let live : p < length patterns = omega (arith, hp, length-answers listed place, right.sizes.patterns_are) in
         answer_at listed p place (omega (arith, live, right.sizes.patterns_are)) ∙ (answer_listed p place live h ∙ sym (answer_at t p number (omega (arith, live, patterns_are)))))
 
-  -- right answers of number 0 are the fault-free baselines
+  -- Right answers of number 0 are the fault-free baselines.
   pub baselines_are : (free : Answers) → IsTable free → AreRightBits (IsListedBit Bits c patterns (0 ∷ [])) (length patterns) 1 (length c.positions) (length patterns) free → answers_of free.rows 0 ≡ free_baselines t.rows
   baselines_are free is right = answers_listed (0 ∷ []) (λ k d h. let zero : k ≡ 0 = omega (arith, h) in rw zero (some_number c)) free is right 0 (omega arith)
 
-  -- right bits of listed numbers are the pass/fail entries of these numbers
+  -- Right bits of listed numbers are the pass/fail entries of these numbers.
   module _ (numbers : List ℕ) (within : All (λ number. number < fault_count c) numbers) (bits : Answers) (is : IsTable bits)
       (right : AreRightBits (IsListedBit Fails c patterns numbers) (length patterns) (length numbers) 1 (length patterns) bits) where
     pub fails_are : (place : ℕ) → place < length numbers → full_entry bits.rows place ≡ pass_fail_entry t.rows (get_or numbers place 0)

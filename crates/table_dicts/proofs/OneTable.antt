@@ -10,13 +10,13 @@ abbrev answers_with : ℕ → ℕ → List (List (List Bool)) → Answers
 answers_with numbers positions rows = record { numbers = numbers; positions = positions; rows = rows }
 
 module _ (c : Circuit) (is : IsCircuit c) where
-  -- there is a table of the answers to patterns
+  -- There is a table of the answers to patterns.
   pub answers_exist : (patterns : List (List Bool)) → (t : Answers) × AreAnswers c patterns t
   answers_exist patterns =
       let made = rows_exist c is patterns in
       (record { numbers = fault_count c; positions = length c.positions; rows = made.0 }, record { numbers = refl; positions = refl; rows = made.1 })
 
-  -- and no other
+  -- There is only one table of the answers to patterns.
   pub one_answers : {patterns : List (List Bool)} {t other : Answers} → AreAnswers c patterns t → AreAnswers c patterns other → t ≡ other
   one_answers {patterns} {t} {other} are others =
       let numbers = are.numbers ∙ sym others.numbers in

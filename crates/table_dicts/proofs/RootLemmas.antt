@@ -16,7 +16,7 @@ use Rattle.table_dicts.specs.declared.simulating.Kept.TheVariants.{Bits}
 use Rattle.table_dicts.specs.ByRoot.{AreGroupsByRoot}
 use Rattle.dict_rows.proofs.GroupLemmas.{firsts_with}
 
--- at first there is no group
+-- At first there is no group.
 pub roots_none : (roots : List ℕ) → AreGroupsByRoot roots 0 [] []
 roots_none roots = record { one_each = refl; few = omega arith; inside = λ group h. absurd (omega (arith, h)); known = λ n h. absurd (omega (arith, h)); same = λ n h. absurd (omega (arith, h)) }
 
@@ -27,7 +27,7 @@ module _ (roots : List ℕ) (i : ℕ) (groups firsts : List ℕ) (are : AreGroup
   last_group : (group : ℕ) → get_or (groups ++ group ∷ []) i 0 ≡ group
   last_group group = get_or_push groups group 0 i are.one_each
 
-  -- a number comes into a group whose first has its root
+  -- A number is put into a group whose first number has its root.
   joined : (group : ℕ) → group < length firsts → get_or roots (get_or firsts group 0) 0 ≡ get_or roots i 0 → AreGroupsByRoot roots (i + 1) (groups ++ group ∷ []) firsts
   joined group low same = record {
     one_each = omega (arith, length_push groups group, are.one_each);
@@ -43,7 +43,7 @@ module _ (roots : List ℕ) (i : ℕ) (groups firsts : List ℕ) (are : AreGroup
     ];
   }
 
-  -- or begins one
+  -- A number begins a group.
   begun : AreGroupsByRoot roots (i + 1) (groups ++ length firsts ∷ []) (firsts ++ i ∷ [])
   begun =
       let count = length firsts in
@@ -81,7 +81,7 @@ pub settled : {c : Circuit} {forest : Forest} → IsForestOf c forest → AreFor
 settled {c} {forest} of = is_settled c of.circuit forest.successors forest.roots of.successors of.roots
 
 module _ (c : Circuit) (patterns : List (List Bool)) (forest : Forest) (of : IsForestOf c forest) (groups firsts : List ℕ) (are : AreGroupsByRoot forest.roots (length forest.roots) groups firsts) where
-  -- a number is equal to the first of its group
+  -- A number is equal to the first of its group.
   equal_first : (n : ℕ) → n < fault_count c → AreEqual c (fault_numbered c (get_or firsts (get_or groups n 0) 0)) (fault_numbered c n)
   equal_first n h =
       let first = get_or firsts (get_or groups n 0) 0 in
@@ -89,7 +89,7 @@ module _ (c : Circuit) (patterns : List (List Bool)) (forest : Forest) (of : IsF
       let same : (get_or forest.roots first 0 == get_or forest.roots n 0) ≡ true = eq-eqb (get_or forest.roots first 0) (get_or forest.roots n 0) (are.same n inside) in
       same_equal c forest of first n (are.inside (get_or groups n 0) (are.known n inside)) inside (get_or forest.roots first 0 == get_or forest.roots n 0) refl same
 
-  -- so answers of the firsts, as many times as they have numbers, are those of all numbers
+  -- The answers of the firsts, repeated for each number of their groups, are those of all numbers.
   pub right_of_firsts : (listed all : Answers) → All (λ v. length v ≡ c.sources) patterns → AreRightBits (IsListedBit Bits c patterns firsts) (length patterns) (length firsts) (length c.positions) (length patterns) listed → ArePicked listed groups all
       → AreRightBits (IsAnswerBit c patterns) (length patterns) (fault_count c) (length c.positions) (length patterns) all
   right_of_firsts listed all widths right picked = record {

@@ -3,7 +3,7 @@ use Rattle.std.specs.Prelude.{◌≡◌, ◌↔◌, ℕ, ◌<◌, Bool, List, []
 use Rattle.net_model.specs.ClassTable.{ClassTable, class_at}
 use Rattle.net_model.specs.Rows.{row_at}
 
--- There is a row for each number, and two are equal exactly where their numbers are of one class.
+-- There is a row for each number, and two rows are equal exactly if their numbers are of one class.
 pub record AreRowsOfClasses (t : ClassTable) (rows : List (List Bool)) : Type 0 where
   pub one_each : length rows ≡ length t.class_of
   pub equal : (m n : ℕ) → m < length t.class_of → n < length t.class_of → (class_at t m ≡ class_at t n) ↔ (slice_index_or rows m [] ≡ slice_index_or rows n [])

@@ -1,7 +1,7 @@
 -- Numbers in groups by the roots of their faults.
 use Rattle.std.specs.Prelude.{◌≡◌, ℕ, ◌<◌, ◌≤◌, List, length, slice_index}
 
--- Each of the first numbers, so many, is in a group whose first number has the same root.
+-- Each of the first `count` numbers is in a group whose first number has the same root.
 pub record AreGroupsByRoot (roots : List ℕ) (count : ℕ) (groups firsts : List ℕ) : Type 0 where
   pub one_each : length groups ≡ count
   pub few : length firsts ≤ count

@@ -1,4 +1,5 @@
-//! The answers of all fault numbers to patterns.
+//! `answers_at`: the table of a circuit's answers, simulated for one number of each root; `number_answers_at`: that of
+//! some numbers.
 
 ghost use Rattle.std.specs.Prelude.{◌≡◌, ◌<◌, ◌^◌, ℕ, length, slice_index, All, IfOk};
 ghost use Rattle.net_model.specs.FaultList.{faults, fault_count};
@@ -13,8 +14,8 @@ use fault_list::FaultList;
 use net_model::{Circuit, Vector, Vectors};
 use std::alloc::{AllocError, Global};
 
-/// The answers of all fault numbers of a circuit to patterns, by the list of its faults. Of the faults that collapse into one only
-/// the lowest is simulated.
+/// Returns the answers of all fault numbers of a circuit to patterns. `_faults` is the list of its faults. Of the
+/// faults that collapse into one (fault collapsing), only the lowest is simulated.
 pub fn answers_at(
     alloc: Global,
     circuit: &Circuit,
@@ -29,7 +30,7 @@ pub fn answers_at(
     subject_answers(alloc, &subject, patterns)
 }
 
-// The answers of all fault numbers of a subject's circuit to patterns.
+// Returns the answers of all fault numbers of the circuit of `subject` to patterns.
 fn subject_answers(
     alloc: Global,
     subject: &Subject,
@@ -42,7 +43,7 @@ fn subject_answers(
     spread(alloc, subject, patterns.as_slice(), &sorted)
 }
 
-// The answers of all numbers of groups, of each those of the first number of its group.
+// Returns the answers of all numbers in groups: those of the first number of each number's group.
 fn spread(
     alloc: Global,
     subject: &Subject,
@@ -63,7 +64,7 @@ fn spread(
     Ok(table)
 }
 
-/// The answers of these numbers, one behind another, to patterns.
+/// Returns the answers of the given numbers to patterns, in the order of the numbers.
 pub fn number_answers_at(
     alloc: Global,
     subject: &Subject,

@@ -17,7 +17,7 @@ use dict_rows::{Dict, DictKind, Grouped, Groups, Sorted, group_rows, rows_at};
 use net_model::AnswerRows;
 use std::alloc::{AllocError, Global};
 
-/// The lowest number of each class, in the order of the classes.
+/// Returns the lowest number of each class, in the order of the classes.
 pub fn representatives(alloc: Global, classes: &Classes) -> Result<Vec<u32>, AllocError>
     ensures lowest { IfOk result (λ lowest. lowest.items ≡ map (representative classes.now) (range_with_len 0 (class_count classes.now))) }
     ensures within { IfOk result (λ lowest. All (λ number. number < length classes.now.class_of) lowest.items) }
@@ -32,8 +32,8 @@ pub fn representatives(alloc: Global, classes: &Classes) -> Result<Vec<u32>, All
     Ok(lowest)
 }
 
-/// The dictionary of a kind with baselines, from the entry of each class. `numbers` are all numbers of the classes, and the
-/// baselines are of so many positions.
+/// Returns the dictionary of a kind with baselines from the entry of each class. `numbers` is the count of all numbers
+/// of the classes, and the baselines have `positions` bits.
 pub fn dict_of_classes(
     alloc: Global,
     kind: DictKind,
@@ -62,7 +62,7 @@ pub fn dict_of_classes(
     })
 }
 
-// The groups of all numbers, so many, whose classes have equal entries.
+// Groups all numbers by the entries of their classes: two are in one group exactly if these entries are equal.
 fn group_numbers(
     alloc: Global,
     classes: &Classes,
@@ -83,7 +83,7 @@ fn group_numbers(
     })
 }
 
-// The groups of the equal entries of the classes of these numbers.
+// Returns the groups of equal entries of the classes of the given numbers.
 fn group_entries(
     alloc: Global,
     classes: &Classes,
@@ -100,7 +100,7 @@ fn group_entries(
     group_rows(alloc, &cells)
 }
 
-// The class of each of these numbers.
+// Returns the class of each of the given numbers.
 fn classes_of(alloc: Global, classes: &Classes, numbers: &[u32]) -> Result<Vec<u32>, AllocError>
     requires { All (λ number. number < length classes.now.class_of) numbers.now }
     ensures classes { IfOk result (λ list. list.items ≡ map (class_at classes.now) numbers.now) }
@@ -113,8 +113,8 @@ fn classes_of(alloc: Global, classes: &Classes, numbers: &[u32]) -> Result<Vec<u
     Ok(list)
 }
 
-/// A group for each class, numbered in order of their lowest numbers, which are the firsts. `numbers` are all numbers of the
-/// classes.
+/// Returns a group for each class. Groups are numbered in the order of the lowest numbers of the classes, which are the
+/// firsts. `numbers` is the count of all numbers of the classes.
 pub(crate) fn class_groups(
     alloc: Global,
     classes: &Classes,
@@ -133,7 +133,8 @@ pub(crate) fn class_groups(
     Ok(sorted)
 }
 
-// The group noted for a number's class. That of its lowest number is the next one, and is noted.
+// Returns the group noted for the class of `number`. If `number` is the lowest of its class, its group is `next`, and
+// is noted.
 fn group_of(classes: &Classes, noted: &mut [u32], number: u32, next: u32) -> u32
     requires number { number < length classes.now.class_of }
     requires noted { length noted.old ≡ class_count classes.now }
@@ -147,7 +148,7 @@ fn group_of(classes: &Classes, noted: &mut [u32], number: u32, next: u32) -> u32
     noted[class as usize]
 }
 
-/// Groups of groups: the outer group of each number's inner one.
+/// Returns the groups of groups: for each number the outer group of its inner group.
 pub(crate) fn regroup(alloc: Global, inner: &[u32], outer: &[u32]) -> Result<Groups, AllocError>
     requires { All (λ group. group < length outer.now) inner.now }
     ensures { IfOk result (λ groups. groups ≡ map (slice_index outer.now) inner.now) }

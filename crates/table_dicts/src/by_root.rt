@@ -6,7 +6,8 @@ ghost use Rattle.table_dicts.specs.ByRoot.{AreGroupsByRoot};
 use dict_rows::Sorted;
 use std::alloc::{AllocError, Global};
 
-/// A group for each root, numbered in order of the lowest numbers that have it, which are the firsts.
+/// Returns a group for each root. Groups are numbered in the order of the lowest numbers with the roots, which are the
+/// firsts.
 pub(crate) fn root_groups(alloc: Global, roots: &[u32]) -> Result<Sorted, AllocError>
     requires inside { All (λ root. root < length roots.now) roots.now }
     requires few { length roots.now < 2 ^ 32 }
@@ -22,7 +23,8 @@ pub(crate) fn root_groups(alloc: Global, roots: &[u32]) -> Result<Sorted, AllocE
     Ok(sorted)
 }
 
-// The group noted for a root, if that of its first number is this root. Else it is the next one, and is noted.
+// Returns the group noted for the root, if its first number has this root. Otherwise notes the next group and returns
+// it.
 fn group_with(roots: &[u32], firsts: &[u32], noted: &mut [u32], root: u32) -> u32
     requires root { root < length noted.old }
     requires few { length firsts.now < 2 ^ 32 }

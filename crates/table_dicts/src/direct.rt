@@ -1,4 +1,4 @@
-//! Dictionaries of a circuit from the simulators, without a table of all answers.
+//! Dictionaries of a circuit made by the simulators, without a table of all answers.
 
 ghost use Rattle.std.specs.Prelude.{◌≡◌, length, IfOk};
 ghost use Rattle.dict_rows.specs.AnswerTable.{Answers};
@@ -14,8 +14,8 @@ use dict_rows::{Dict, DictKind, answers_of};
 use net_model::AnswerRows;
 use std::alloc::{AllocError, Global};
 
-/// The full-response dictionary of a circuit at patterns. Only the lowest number of each class is simulated, so that in memory
-/// there are the dictionary's entries and groups.
+/// Returns the full-response dictionary of a circuit at patterns. Only the lowest number of each class is simulated, so
+/// memory holds the dictionary's entries and groups, not a table of all answers.
 pub fn full_at(alloc: Global, setting: &Setting) -> Result<Dict, AllocError>
     requires { IsSetting setting.now }
     ensures { IfOk result (λ dict. (t : Answers) → AreAnswersAt setting.now t → IsFull t dict) }
@@ -38,8 +38,8 @@ pub fn full_at(alloc: Global, setting: &Setting) -> Result<Dict, AllocError>
     })
 }
 
-/// The pass/fail dictionary of a circuit at patterns. Only the lowest number of each class is simulated, so that in memory there
-/// are a bit for each class and pattern, a group for each number, and the fault-free answers.
+/// Returns the pass/fail dictionary of a circuit at patterns. Only the lowest number of each class is simulated, so
+/// memory holds a bit for each class and pattern, a group for each number, and the fault-free answers.
 pub fn pass_fail_at(alloc: Global, setting: &Setting) -> Result<Dict, AllocError>
     requires { IsSetting setting.now }
     ensures { IfOk result (λ dict. (t : Answers) → AreAnswersAt setting.now t → IsPassFail t dict) }
@@ -61,7 +61,7 @@ pub fn pass_fail_at(alloc: Global, setting: &Setting) -> Result<Dict, AllocError
     )
 }
 
-// The answers of the circuit without a fault, which number 0 stands for.
+// Returns the answers of the circuit without a fault, which are those of number 0.
 fn free_answers(alloc: Global, setting: &Setting) -> Result<AnswerRows, AllocError>
     requires { IsSetting setting.now }
     ensures shape { IfOk result (AreRows (length setting.now.patterns.now) (length setting.now.subject.now.positions)) }

@@ -2,7 +2,7 @@
 
 ghost use Rattle.table_dicts.specs.Laws.{HaveOneTable};
 
-/// The answers of a circuit to patterns have one table, and no other.
+/// A circuit has exactly one table of answers to patterns.
 pub fn one_table_of_answers()
     ensures { HaveOneTable }
 {}

@@ -1,4 +1,4 @@
-//! How many pairs of classes a dictionary keeps apart.
+//! How many pairs of classes a dictionary distinguishes.
 
 ghost use Rattle.std.specs.Prelude.{◌≡◌, ◌+◌, ◌<◌, ◌^◌, IfOk, length, slice_index, slice_set};
 ghost use Rattle.dict_rows.specs.Dictionary.{entry_of, IsGroupedDict};
@@ -8,7 +8,7 @@ use class_refine::Classes;
 use dict_rows::Dict;
 use std::alloc::{AllocError, Global};
 
-/// How many pairs of classes have representatives with different entries.
+/// Returns the number of pairs of classes whose representatives have different entries.
 pub fn apart(alloc: Global, dict: &Dict, classes: &Classes) -> Result<u64, AllocError>
     requires grouped { IsGroupedDict dict.now }
     requires numbers { length classes.now.class_of ≡ dict.now.numbers }
@@ -26,7 +26,7 @@ pub fn apart(alloc: Global, dict: &Dict, classes: &Classes) -> Result<u64, Alloc
     Ok(count)
 }
 
-/// Counts one more in a group, and says how many there were before.
+/// Counts one more in a group, and returns how many there were before.
 pub fn count_one(sizes: &mut [u32], group: u32) -> u32
     requires group { group < length sizes.old }
     requires few { slice_index sizes.old group + 1 < 2 ^ 32 }

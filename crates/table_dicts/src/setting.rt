@@ -6,7 +6,7 @@ use class_refine::Classes;
 use fault_collapse::Subject;
 use net_model::Vectors;
 
-/// A circuit with its faults, patterns, and the classes of these patterns. Logs are scored by other classes too.
+/// A circuit with its faults, patterns, and the classes of these patterns. Logs can also be scored by other classes.
 #[derive(Clone, Copy)]
 pub struct Setting<'a> {
     pub subject: &'a Subject<'a>,
@@ -15,8 +15,8 @@ pub struct Setting<'a> {
 }
 
 impl Setting<'_> {
-    /// The classes of the patterns are of all the circuit's numbers, so a log is scored by them. A function whose proof needs this
-    /// calls this. It does nothing.
+    /// States that the classes of the patterns are of all the circuit's numbers, so that a log can be scored by them.
+    /// Does nothing. A function whose proof needs this calls it.
     pub fn stands(&self)
         requires { IsSetting self.now }
         ensures { IsScored self.now }

@@ -1,5 +1,5 @@
-//! Tests of tester logs, of lists of vectors, of the fault numbers that a log points to, of adaptive plans, of the
-//! texts of simulations, and of suspects.
+//! Tests of tester logs, of lists of vectors, of the fault numbers that a log points to or ranks, of adaptive plans, of
+//! the texts of simulations, of suspects, and of bridges.
 #![tactic(auto)]
 
 #[cfg(test)]

@@ -1,4 +1,5 @@
-//! Tests of what evidence is made of, and of its checker, with logs and trees worked out by hand and with what the solver answers.
+//! Tests of what evidence is made of, and of its checker, with logs and trees worked out by hand and with those that
+//! the solver returns.
 #![tactic(auto)]
 
 #[cfg(test)]

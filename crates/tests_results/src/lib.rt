@@ -1,4 +1,5 @@
-//! Tests of how records are written and read, beyond what the contracts say, and of the check of result files.
+//! Tests of how records are written and read, beyond what the contracts say, and of the check and the compaction of
+//! result files.
 #![tactic(auto)]
 
 #[cfg(test)]

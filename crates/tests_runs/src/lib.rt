@@ -1,4 +1,4 @@
-//! Tests of whole runs, over shelves in memory, with files worked out by hand.
+//! Tests of whole runs over shelves in memory, with files worked out by hand.
 #![tactic(auto)]
 
 #[cfg(test)]

@@ -1,4 +1,4 @@
-//! A module tests the runs of a command, or of several.
+//! Each module tests the runs of a command or of several.
 
 mod adapting;
 mod calls;

@@ -22,7 +22,7 @@ third = leaver_of 3 1 2
 abbrev pub three : List Leaver
 three = first ∷ second ∷ third ∷ []
 
--- number 4 answers as number 0, and number 3 as number 1
+-- the answers of the five: number 4 answers as number 0, and number 3 as number 1
 abbrev pub answers : List (List Bool)
 answers = (false ∷ []) ∷ (true ∷ []) ∷ [] ∷ (true ∷ []) ∷ (false ∷ []) ∷ []
 

@@ -1,4 +1,4 @@
-//! Tests of the simulators, of the class table, and of pair sets and the search, against values worked out by hand.
+//! Tests of the simulators, the class table, pair sets and the search, against values worked out by hand.
 #![tactic(auto)]
 
 #[cfg(test)]

@@ -1,4 +1,4 @@
-//! A module tests the runs of a command.
+//! Each module tests the runs of a command or of several.
 
 mod applied;
 mod bridging;

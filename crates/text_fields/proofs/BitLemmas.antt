@@ -1,4 +1,4 @@
--- Bits as digits: a text is that of one list of bits, and digits that spell a field.
+-- Bits as digits: a text spells one list of bits, and digits that spell a field.
 use Rattle.std.proofs.Common.{◌≡◌, ◌≢◌, ◌∙◌, ℕ, ◌<◌, ◌≤◌, Bool, true, false, eqb, zero, suc, ◌+◌, List, [], ◌∷◌, map, length, get_or, set, replicate, below_more, refl, sym, ap, ap₂, subst, inl, inr, arith, lit<}
 use Rattle.std.specs.Prelude.{All, Contains, codes}
 use Rattle.std.proofs.lemmas.Bool.{eqb-false}
@@ -57,7 +57,7 @@ digits_back : (field : Text) → ((k : ℕ) → k < length field → IsDigit (ge
 digits_back [] digits = refl
 digits_back (byte ∷ field) digits = ap₂ (λ (b : ℕ) (bs : Text). b ∷ bs) (digit_back byte (digits 0 (omega arith))) (digits_back field (λ k below. digits (suc k) (omega (arith, below))))
 
--- digits spell themselves, where there are some
+-- digits spell themselves, if there are some
 pub digits_in : (field : Text) → (length field ≡ 0 → ⊥) → ((k : ℕ) → k < length field → IsDigit (get_or field k 0)) → AreDigitsIn field field
 digits_in [] some digits = absurd (some refl)
 digits_in (byte ∷ field) some digits = let e = digits_back (byte ∷ field) digits in record { digits_are = sym e; field_is = e }
@@ -71,7 +71,7 @@ all_digits [] k below = absurd (omega (arith, below))
 all_digits (bit ∷ bits) zero below = is_digit bit
 all_digits (bit ∷ bits) (suc k) below = all_digits bits k (omega (arith, below))
 
--- a field with another byte is no text of bits, but for the dash
+-- a field with another byte is no text of bits, except the dash
 pub no_bits : (field : Text) → (field ≡ codes "-" → ⊥) → (((k : ℕ) → k < length field → IsDigit (get_or field k 0)) → ⊥) → (bits : List Bool) → bits_text bits ≡ field → ⊥
 no_bits field dash other [] e = dash (sym e)
 no_bits field dash other (bit ∷ bits) e = other (λ k below. subst (λ (f : Text). IsDigit (get_or f k 0)) e (all_digits (bit ∷ bits) k (omega (arith, below, ap length e))))

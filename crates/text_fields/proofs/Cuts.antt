@@ -1,4 +1,4 @@
--- Texts that are cut where a byte stands for the first time, and lists where an element of another kind begins.
+-- Texts that are cut at the first place of a byte, and lists that are cut before the first element of another kind.
 use Rattle.std.proofs.Common.{◌≡◌, ℕ, suc, ◌+◌, ◌-◌, ◌<◌, ◌≤◌, List, [], ◌∷◌, ◌++◌, ◌==◌, true, take, drop, length, length-take, add-one, refl, sym, subst, ap, ap₂, ◌∙◌, arith}
 use Rattle.std.specs.Prelude.{All, Contains, slice_index, slice_index_or}
 use Rattle.std.proofs.Math.Seq.{drop-cons}
@@ -22,7 +22,7 @@ module _ {X : Type 0} (P Q : X → Type 0) where
   begins_at [] ys y e begins = absurd (cc)
   begins_at (x ∷ xs) ys y e begins = let same : x ≡ y = cc in subst Q same begins
 
-  -- elements of the first kind, up to an end or an element of the second, are the same in two cuts of a list
+  -- elements of the first kind, up to the end or an element of the second kind, are the same in two cuts of a list
   pub kinds_cut_once : ((x : X) → P x → Q x → ⊥) → (a c b d : List X) → All P a → All P c → Begins b → Begins d → a ++ b ≡ c ++ d → (a ≡ c) × (b ≡ d)
   kinds_cut_once apart [] [] b d first second begins ends e = (refl, e)
   kinds_cut_once apart [] (y ∷ c) b d first second begins ends e = absurd (apart y (All-head P y c second) (begins_at b (c ++ d) y e begins))
@@ -47,11 +47,11 @@ cut_once byte (x ∷ a) (y ∷ c) b d first second e =
     let rest = cut_once byte a c b d (missing_later byte x a first) (missing_later byte y c second) (tails e).1 in
     (ap₂ (λ (z : ℕ) (zs : Text). z ∷ zs) (tails e).0 rest.0, rest.1)
 
--- a byte below all others of a text stands nowhere in it
+-- a byte below all others of a text isn't in the text
 pub missing_below : (byte : ℕ) (text : Text) → All (λ b. byte < b) text → ¬ Contains text byte
 missing_below byte text all there = let low : byte < byte = All-contains (λ b. byte < b) text byte all there in absurd (omega (arith, low))
 
--- a text with something behind another part isn't empty
+-- a text with something after another part isn't empty
 pub not_empty : (front back : Text) (byte : ℕ) → front ++ byte ∷ back ≡ [] → ⊥
 not_empty [] back byte e = absurd (cc)
 not_empty (b ∷ front) back byte e = absurd (cc)
@@ -60,7 +60,7 @@ not_empty (b ∷ front) back byte e = absurd (cc)
 same_byte : (text : Text) (byte k : ℕ) → k < length text → slice_index_or text k byte ≡ byte → (slice_index text k == byte) ≡ true
 same_byte text byte k h e = eq-eqb (slice_index text k) byte (get_or_default text k 0 byte h ∙ e)
 
--- a byte that is found nowhere isn't contained
+-- a byte that isn't found isn't contained
 pub found_nowhere : (byte : ℕ) (text : Text) → ((k : ℕ) → 0 ≤ k → k < length text → ¬ ((slice_index text k == byte) ≡ true)) → ¬ Contains text byte
 found_nowhere byte text nowhere there = nowhere there.0 (omega arith) there.1 (same_byte text byte there.0 there.1 there.2)
 

@@ -22,7 +22,7 @@ number_once m n low high e = decimal_injective m n (omega (arith, low)) (omega (
 abbrev pub IsDecimalDigit : ℕ → Type 0
 IsDecimalDigit b = (48 ≤ b) × (b ≤ 57)
 
--- a number has digits alone
+-- a number has only digits
 pub number_digits : (n : ℕ) → IsNumber n → All IsDecimalDigit (decimal n)
 number_digits n small =
     let numeral = (decimal_is_IsNumeral n (omega (arith, small))).0 in
@@ -68,7 +68,7 @@ no_padded_number n text small e begins long = elim (cases_lt 0 n) [
 digit_model : IsNumeralModel (AllDigits 10) (digits_value 10)
 digit_model = numerals_by_value (AllDigits 10) tells_digits
 
--- what is read from other digits is what they spell
+-- what is read from other digits is the number that they spell
 parsed_number : {E : Type 0} (n : ℕ) (text : Text) (r : Result ℕ E) → ParsesUnsigned 32 10 text r → r ≡ Ok n → (first_byte text ≡ 43 → ⊥) → (first_byte text ≡ 48 → length text ≡ 1) → IsNumber n × (decimal n ≡ text)
 parsed_number {E} n text r parses is plain alone =
     let same : without_leading_plus text ≡ text = without_leading_plus_none text plain in

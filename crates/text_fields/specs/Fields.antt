@@ -3,10 +3,11 @@ use Rattle.std.specs.Prelude.{◌≡◌, ℕ, ◌<◌, ◌^◌, ◌⊎◌, Bool,
 use Rattle.net_model.specs.Answer.{bit_at}
 use Rattle.net_model.specs.BitText.{bit_digit, bits_text}
 
+-- a list of bytes
 abbrev pub Text : Type 0
 Text = List ℕ
 
--- The number is one of 32 bits, as those that are written and read.
+-- The number is below 2^32, as a field may spell it.
 abbrev pub IsNumber : ℕ → Type 0
 IsNumber n = n < 2 ^ 32
 
@@ -14,12 +15,12 @@ IsNumber n = n < 2 ^ 32
 abbrev pub digit_bits : Text → List Bool
 digit_bits digits = map (λ digit. digit == 49) digits
 
--- There are so many bits, each the only one that is answered at its place.
+-- There are `count` bits, and at the place of each `answers` allows no other bit.
 pub record AreBitsOf (answers : ℕ → Bool → Type 0) (count : ℕ) (bits : List Bool) : Type 0 where
   pub count_is : length bits ≡ count
   pub each : (at : ℕ) (bit : Bool) → at < count → answers at bit → bit ≡ bit_at bits at
 
--- The byte is a digit of a bit.
+-- The byte is the digit of a bit.
 abbrev pub IsDigit : ℕ → Type 0
 IsDigit byte = (byte ≡ 48) ⊎ (byte ≡ 49)
 
@@ -27,12 +28,12 @@ IsDigit byte = (byte ≡ 48) ⊎ (byte ≡ 49)
 abbrev pub AreDigitsOf : List Bool → Text → Type 0
 AreDigitsOf bits digits = digits ≡ map bit_digit bits
 
--- The digits spell the field, as bits: they are all of it, but for a dash, where there are none.
+-- The digits spell the field, as bits: they are all of it, or there are none and the field is a dash.
 pub record AreDigitsIn (field digits : Text) : Type 0 where
   pub digits_are : AreDigitsOf (digit_bits digits) digits
   pub field_is : bits_text (digit_bits digits) ≡ field
 
--- A text is cut at the first place where a byte stands.
+-- The text is cut at the first place of the byte.
 pub record IsCutAt (byte : ℕ) (text front back : Text) : Type 0 where
   pub first : ¬ Contains front byte
   pub text_is : text ≡ front ++ byte ∷ back

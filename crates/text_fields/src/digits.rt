@@ -8,7 +8,8 @@ ghost use Rattle.text_fields.specs.Fields.{digit_bits, AreBitsOf, IsDigit, AreDi
 use net_model::Bits;
 use std::alloc::{AllocError, Global};
 
-/// The digits of a field of bits: all of it, but for a dash, where there are none.
+/// Returns the digits of a field of bits: all of it, or no digits if it is a dash. Returns none exactly if the field is
+/// no text of bits.
 pub fn digits_of(field: &[u8]) -> Option<&[u8]>
     ensures { MatchOption result ((bits : List Bool) → bits_text bits ≢ field.now) (λ digits. AreDigitsIn field.now digits.now) }
 {
@@ -24,14 +25,14 @@ pub fn digits_of(field: &[u8]) -> Option<&[u8]>
     Some(field)
 }
 
-// Whether each byte is a digit of bits.
+// Returns whether each byte is the digit of a bit.
 fn are_digits(field: &[u8]) -> bool
     ensures { IsTrue result ↔ EachIndex field.now (λ k. IsDigit (slice_index field.now k)) }
 {
     field.iter().all(|b| *b == b'0' || *b == b'1')
 }
 
-/// The bits of digits.
+/// Returns the bits of digits.
 pub fn bits_of(alloc: Global, digits: &[u8]) -> Result<Bits, AllocError>
     ensures { IfOk result (λ bits. bits ≡ digit_bits digits.now) }
 {
@@ -42,9 +43,8 @@ pub fn bits_of(alloc: Global, digits: &[u8]) -> Result<Bits, AllocError>
     Ok(bits)
 }
 
-/// Appends so many bits as digits, each the one that is answered at its place, or a dash where there are none.
-///
-/// After an error something of it may stand behind the text.
+/// Appends `count` bits as digits, the bit that `bit` returns at each place, or a dash if `count` is 0. After an error
+/// the text that was there is followed by anything or nothing.
 pub fn push_bits<F: Fn(usize) -> bool>(
     text: &mut String,
     count: usize,

@@ -3,7 +3,8 @@
 ghost use Rattle.std.specs.Prelude.{◌≡◌, ◌≢◌, ℕ, decimal, MatchOption};
 ghost use Rattle.text_fields.specs.Fields.{IsNumber};
 
-/// The number that a field spells: digits without a leading zero.
+/// Returns the number below 2^32 that a field spells with digits and without a leading zero. Returns none exactly if
+/// the field spells no such number.
 pub fn number_of(field: &str) -> Option<u32>
     ensures { MatchOption result ((n : ℕ) → IsNumber n → decimal n ≢ field.now) (λ n. IsNumber n × (decimal n ≡ field.now)) }
 {
@@ -17,7 +18,7 @@ pub fn number_of(field: &str) -> Option<u32>
     field.parse().ok()
 }
 
-/// The number that the bytes of a field spell, which need not be text: digits without a leading zero.
+/// Returns the same as `number_of`, for a field whose bytes need not be text.
 pub fn number_of_bytes(field: &[u8]) -> Option<u32>
     ensures { MatchOption result ((n : ℕ) → IsNumber n → decimal n ≢ field.now) (λ n. IsNumber n × (decimal n ≡ field.now)) }
 {

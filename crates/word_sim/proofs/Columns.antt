@@ -47,7 +47,7 @@ columns_next : (rows : List (List Bool)) (live : ℕ) → columns rows (live + 1
 unfolding columns
 columns_next rows live = map-range_with_len_more (column rows) 0 live live (omega arith)
 
--- one vector more, where the lanes before it are as they were
+-- one vector more, if the lanes before it are as they were
 pub columns_more : (rows old : List (List Bool)) (live : ℕ) (v : List Bool) → column rows live ≡ v → ((lane : ℕ) → lane < live → column rows lane ≡ column old lane) → columns rows (live + 1) ≡ columns old live ++ v ∷ []
 columns_more rows old live v last before =
     let same : columns rows live ≡ columns old live =

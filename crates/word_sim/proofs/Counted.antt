@@ -1,4 +1,4 @@
--- The vectors of the first block count; and blocks follow one another.
+-- The vectors of the first block count, and blocks follow one another.
 use Rattle.std.proofs.Common.{◌≡◌, ℕ, suc, ◌+◌, ◌*◌, ◌/◌, ◌%◌, ◌^◌, ◌<◌, ◌≤◌, List, [], ◌∷◌, ◌++◌, length, map, refl, sym, ◌∙◌, ap, subst, arith, pow_mono}
 use Rattle.std.specs.Prelude.{Bool, true, false, Contains, ◌==◌, nat_lt, if◌then◌else◌}
 use Rattle.std.specs.List.{range_with_len}

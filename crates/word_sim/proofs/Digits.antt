@@ -46,7 +46,7 @@ unfolding lanes_of
 length-lanes_of [] = refl
 length-lanes_of (word ∷ words) = omega (arith, length-append (low_digits 64 word) (lanes_of words), length-low_digits 64 word, length-lanes_of words)
 
--- words put together digit by digit are so lane by lane
+-- an operation that works digit by digit on words works lane by lane
 pub both_lanes : (op : ℕ → ℕ → ℕ) (test : Bool → Bool → Bool) → ((a b lane : ℕ) → bit_of (op a b) lane ≡ test (bit_of a lane) (bit_of b lane))
     → (a b : List ℕ) → AreFourWords a → AreFourWords b → (lane : ℕ) → lane < LANES → bit_at (lanes_of (zip2 op a b)) lane ≡ test (bit_at (lanes_of a) lane) (bit_at (lanes_of b) lane)
 both_lanes op test digits a b first second lane h =

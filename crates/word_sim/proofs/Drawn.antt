@@ -17,7 +17,7 @@ use Rattle.word_sim.specs.BlockFields.{column, columns}
 use Rattle.word_sim.proofs.Columns.{column_is, columns_is}
 use Rattle.word_sim.proofs.Written.{ArePut, AreBeside}
 
--- ---- the words that count
+-- ---- the words of the sources that count
 
 abbrev all_below : (ℕ → Bool) → ℕ → Bool
 all_below test zero = true
@@ -78,12 +78,12 @@ next_rng_by : (b : Bool) (sources done source rng : ℕ) → (done == 0 && nat_l
 next_rng_by true sources done source rng e h is = is ∙ ap state_after (none_taken sources done source h e)
 next_rng_by false sources done source rng e h is = ap next_state is ∙ ap state_after (one_taken sources done source h e)
 
--- and leaves the generator at the next one
+-- after it the generator is at the next word
 pub next_rng : (sources done source rng : ℕ) → source < sources → rng ≡ state_after (word_number sources done source)
     → (if done == 0 && nat_lt source 6 then rng else (mix_u64 rng).1) ≡ state_after (word_number sources done (source + 1))
 next_rng sources done source rng h is = next_rng_by (done == 0 && nat_lt source 6) sources done source rng refl h is
 
--- ---- where a stream stands
+-- ---- the state of a stream
 
 pub is_after : (own sources done : ℕ) (first : Bool) (rng : ℕ) → stream_with own first rng ≡ stream_at sources done → IsAfter sources done first rng
 is_after own sources done first rng at = record {
@@ -91,7 +91,7 @@ is_after own sources done first rng at = record {
   state = ap (λ (s : StreamState). s.rng) at;
 }
 
--- all words of a block are given
+-- the next block follows the last word of a block
 pub next_block : (sources done : ℕ) → word_number sources done sources ≡ word_number sources (done + 1) 0
 next_block sources done = omega arith
 
@@ -99,7 +99,7 @@ next_block sources done = omega arith
 none_done : (done count : ℕ) → (done == 0 && count == 0) ≡ (done + count == 0)
 none_done done count = grind (arith, nat_tests)
 
--- so many blocks on
+-- the state `count` blocks later
 pub is_on : (sources done count : ℕ) (first : Bool) (start rng : ℕ) → IsAfter sources done first start → rng ≡ state_after (word_number sources (done + count) 0)
     → IsAfter sources (done + count) (first && count == 0) rng
 is_on sources done count first start rng after is = record {
@@ -109,16 +109,16 @@ is_on sources done count first start rng after is = record {
 
 -- ---- one block
 
--- the first rows have their words in a block of the stream, in the lanes of one word
+-- The first `n` rows have their words of a block of the stream in the lanes of word `at`.
 abbrev pub AreDrawn : ℕ → ℕ → ℕ → List (List Bool) → ℕ → Type 0
 AreDrawn sources done at rows n = ArePut (λ lane. lane / 64) at (λ k lane. stream_bit sources done (lane % 64) k) rows n
 
--- the first rows have their words, and the generator stands at the next one
+-- The first `n` rows have their words, and the generator is at the next word.
 pub record IsDrawnTo (sources done at : ℕ) (rows : List (List Bool)) (rng n : ℕ) : Type 0 where
   pub state : rng ≡ state_after (word_number sources done n)
   pub drawn : AreDrawn sources done at rows n
 
--- so it is of each block that can come next, and the lanes of the other words are as they were
+-- This holds for each block that can come next, and the lanes of the other words are as before.
 pub record IsDrawing (sources at : ℕ) (first : Bool) (start : ℕ) (old rows : List (List Bool)) (rng n : ℕ) : Type 0 where
   pub next : (done : ℕ) → IsAfter sources done first start → IsDrawnTo sources done at rows rng n
   pub others : AreBeside (λ lane. lane / 64) at old rows
@@ -137,7 +137,7 @@ drawn_column sources done at rows lane drawn wide h =
 
 -- ---- blocks one after another
 
--- the first lanes have so many blocks, and the generator stands at the next one
+-- The first lanes have `count` blocks, and the generator is at the next block.
 pub record AreDrawnTo (sources done count : ℕ) (rows : List (List Bool)) (rng : ℕ) : Type 0 where
   pub state : rng ≡ state_after (word_number sources (done + count) 0)
   pub drawn : (lane : ℕ) → lane < 64 * count → column rows lane ≡ stream_vector sources (64 * done + lane)

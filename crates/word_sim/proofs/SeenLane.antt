@@ -20,7 +20,7 @@ seen_at rows pins i lane row h inside read =
     get_or-map (λ pin. bit_at (get_or rows pin []) lane) pins i 0 false h
     ∙ ap (λ r. bit_at r lane) (sym (get_or_read rows (get_or pins i 0) row (inside i 0 h) read []))
 
--- ---- no pin is stuck where there is no fault
+-- ---- without a fault no pin is stuck
 
 seen_from-free : (rows : List (List Bool)) (lane line k : ℕ) (pins : List ℕ) → seen_from (stuck_pin Free line) (column rows lane) k pins ≡ seen_lane rows pins lane
 seen_from-free rows lane line k [] = refl

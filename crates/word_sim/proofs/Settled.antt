@@ -1,4 +1,4 @@
--- What the lanes of a simulator's rows show, once every gate has its value.
+-- What the lanes of a simulator's rows show after every gate has its value.
 use Rattle.std.proofs.Common.{◌≡◌, ℕ, ◌<◌, List, [], length, get_or, refl, sym, ◌∙◌, ap, subst, arith}
 use Rattle.std.specs.Prelude.{Bool, Option, None, Some, option_map, unwrap_or}
 use Rattle.std.proofs.lemmas.List.{get_or_read}

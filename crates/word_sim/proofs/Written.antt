@@ -6,7 +6,7 @@ use Rattle.std.proofs.lemmas.List.{get_or-set_same, get_or-set_other, get_or_rea
 use Rattle.net_model.specs.Answer.{bit_at}
 use Rattle.word_sim.specs.declared.lanes.TheConstants.{LANES}
 
--- all rows have what they had in the lanes of other keys than one
+-- In each lane with another key than `own` all rows are as in `first`.
 abbrev pub AreBeside : (ℕ → ℕ) → ℕ → List (List Bool) → List (List Bool) → Type 0
 AreBeside key own first rows = (k lane : ℕ) → lane < LANES → key lane ≢ own → bit_at (get_or rows k []) lane ≡ bit_at (get_or first k []) lane
 
@@ -20,7 +20,7 @@ beside_more key own first rows n old new before h read there k lane within apart
       | inr ne ↦ ap (λ row. bit_at row lane) (get_or-set_other rows n k new [] ne) ∙ before k lane within apart
     ]
 
--- the first rows have these bits in the lanes of one key
+-- The first `n` rows have these bits in the lanes with the key `own`.
 abbrev pub ArePut : (ℕ → ℕ) → ℕ → (ℕ → ℕ → Bool) → List (List Bool) → ℕ → Type 0
 ArePut key own bit rows n = (k lane : ℕ) → k < n → lane < LANES → key lane ≡ own → bit_at (get_or rows k []) lane ≡ bit k lane
 
@@ -33,7 +33,7 @@ put_more key own bit rows n new before h here k lane l within e =
       | inr ne ↦ ap (λ row. bit_at row lane) (get_or-set_other rows n k new [] ne) ∙ before k lane (omega arith) within e
     ]
 
--- the first rows have the vector's bits in the lane, and all rows have what they had in the other lanes
+-- The first `n` rows have the vector's bits in lane `own`, and in the other lanes all rows are as in `first`.
 pub record IsWritten (first rows : List (List Bool)) (own : ℕ) (v : List Bool) (n : ℕ) : Type 0 where
   pub written : ArePut (λ lane. lane) own (λ k lane. bit_at v k) rows n
   pub others : AreBeside (λ lane. lane) own first rows
@@ -49,7 +49,7 @@ written_more first rows own v n old new w h read here there = record {
   others = beside_more (λ lane. lane) own first rows n old new w.others h read there;
 }
 
--- the first rows have these bits in the first lanes
+-- The first `n` rows have these bits in the first `lanes` lanes.
 abbrev pub AreSet : (ℕ → ℕ → Bool) → ℕ → List (List Bool) → ℕ → Type 0
 AreSet bit lanes rows n = (k lane : ℕ) → k < n → lane < lanes → bit_at (get_or rows k []) lane ≡ bit k lane
 

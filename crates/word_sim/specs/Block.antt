@@ -2,7 +2,7 @@
 use Rattle.std.specs.Prelude.{◌≡◌, ℕ, ◌≤◌, Bool, List, length, All}
 use Rattle.word_sim.specs.declared.lanes.TheConstants.{LANES}
 
--- so many sources, and the vectors so far, each in the lane of its place
+-- the number of sources, and the vectors, each in the lane of its place in the list
 pub record Block : Type 0 where
   pub sources : ℕ
   pub vectors : List (List Bool)

@@ -10,7 +10,7 @@ use Rattle.word_sim.specs.Block.{Block, block_with}
 unfoldable pub column : List (List Bool) → ℕ → List Bool
 column rows lane = map (λ row. bit_at row lane) rows
 
--- the bits of the first lanes
+-- the bits of each of the first `live` lanes, row by row
 unfoldable pub columns : List (List Bool) → ℕ → List (List Bool)
 columns rows live = map (column rows) (range_with_len 0 live)
 

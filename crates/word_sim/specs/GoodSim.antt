@@ -12,10 +12,10 @@ pub record GoodSim : Type 0 where
 abbrev pub good_sim_with : Circuit → Option (List (List Bool)) → GoodSim
 good_sim_with circuit ran = record { circuit = circuit; ran = ran }
 
--- the vectors of the last block, none before the first
+-- the vectors of the block that was run last; none if no block was run
 abbrev pub vectors_of : GoodSim → List (List Bool)
 vectors_of sim = unwrap_or sim.ran []
 
--- The line has this bit, without a fault, in the valuation that agrees with the vector of the lane.
+-- The line has this bit in the valuation that agrees with the vector of the lane without a fault.
 abbrev pub IsGoodBit : GoodSim → ℕ → ℕ → Bool → Type 0
 IsGoodBit sim line lane bit = (bits : List Bool) → Agrees sim.circuit Free (slice_index_or (vectors_of sim) lane []) bits → bit ≡ bit_at bits line

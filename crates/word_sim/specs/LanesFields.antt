@@ -1,4 +1,4 @@
--- What the field of `Lanes` shows, and that nothing of it is lost.
+-- What the field of `Lanes` shows, and that it shows all of it.
 use Rattle.std.specs.Prelude.{◌≡◌, ℕ, zero, suc, ◌/◌, ◌%◌, ◌^◌, ◌<◌, Bool, List, [], ◌∷◌, ◌++◌, length, take, drop, get_or, ◌==◌, if◌then◌else◌}
 use Rattle.std.proofs.Common.{refl, ◌∙◌, ap, arith}
 use Rattle.std.proofs.lemmas.List.{take_at, drop_at}
@@ -17,7 +17,7 @@ word_of-low_digits (suc n) word h =
     let rest : word_of (low_digits n (word / 2)) ≡ word / 2 = word_of-low_digits n (word / 2) half in
     omega (arith, rest, digit_value word)
 
--- Four words of 64 digits.
+-- There are four words, each of at most 64 binary digits.
 pub record AreFourWords (words : List ℕ) : Type 0 where
   pub four : length words ≡ 4
   pub small : (at : ℕ) → at < length words → get_or words at 0 < 2 ^ 64

@@ -1,4 +1,4 @@
-//! Blocks of vectors, a lane for each.
+//! `Block`: vectors that are simulated at once, each in a lane of its own.
 
 ghost use Rattle.std.specs.Prelude.{◌≡◌, ◌≢◌, ℕ, ◌<◌, [], ◌∷◌, ◌++◌, length, slice_index_or, IfOk};
 ghost use Rattle.net_model.specs.Answer.{bit_at};
@@ -29,7 +29,7 @@ impl Model for Block {
 }
 
 impl Block {
-    /// A block with no vector.
+    /// Returns a block for `sources` sources, without a vector.
     pub fn new(alloc: Global, sources: u32) -> Result<Block, AllocError>
         ensures { IfOk result (λ block. block ≡ block_with sources []) }
     {
@@ -44,7 +44,7 @@ impl Block {
         self.rows.len() as u32
     }
 
-    /// How many vectors there are.
+    /// Returns how many vectors the block has.
     pub fn live(&self) -> u32
         ensures value { result ≡ length self.now.vectors }
         ensures block { IsBlock self.now }
@@ -58,7 +58,7 @@ impl Block {
         self.live = 0;
     }
 
-    /// Puts a vector into the next lane.
+    /// Puts the vector `v`, which has a bit for each source, into the next lane.
     pub fn push(&mut self, v: &Vector)
         requires room { length self.old.vectors < LANES }
         requires width { length v.now ≡ self.old.sources }
@@ -80,7 +80,7 @@ impl Block {
         Ok(v)
     }
 
-    // The bits of a source, lane by lane.
+    // Returns the bits of a source by lane. Nothing is said of lanes without a vector.
     pub(crate) fn row(&self, source: u32) -> Lanes
         requires { source < self.now.sources }
         ensures { (lane : ℕ) → lane < length self.now.vectors → bit_at result lane ≡ bit_at (slice_index_or self.now.vectors lane []) source }
@@ -89,7 +89,6 @@ impl Block {
     }
 }
 
-// Writes a vector into a lane.
 fn set_lane(rows: &mut [Lanes], lane: u32, v: &Vector)
     requires lane { lane < LANES }
     requires width { length v.now ≡ length rows.old }

@@ -1,4 +1,4 @@
-//! Sources that have one bit in some vectors of a block.
+//! `Block::fix`: a source gets the same bit in some vectors of a block.
 
 ghost use Rattle.std.specs.Prelude.{◌≡◌, ◌<◌, ℕ, [], true, false, length, slice_index_or, slice_set};
 ghost use Rattle.net_model.specs.Answer.{bit_at};
@@ -7,7 +7,7 @@ use crate::block::Block;
 use crate::lanes::Lanes;
 
 impl Block {
-    /// Gives a source the same bit in the vectors of these lanes.
+    /// Sets the bit of `source` to `bit` in each vector whose lane has 1 in `lanes`. The other vectors stay.
     pub fn fix(&mut self, source: u32, bit: bool, lanes: Lanes)
         requires { source < self.old.sources }
         ensures sources { self.new.sources ≡ self.old.sources }

@@ -8,7 +8,7 @@ ghost use Rattle.word_sim.specs.SeenLane.{seen_lane};
 use crate::lanes::{LANES, Lanes};
 use net_model::{Fold, Gate, Operation};
 
-/// The value of a gate in each lane of the rows that it reads.
+/// Returns the value of `gate` in each lane, if each line has the bits of its row of `rows`.
 pub(crate) fn gate_lanes(gate: &Gate, rows: &[Lanes]) -> Lanes
     requires arity { IsTrue (takes_pins gate.now.kind (length gate.now.pins)) }
     requires inside { All (λ pin. pin < length rows.now) gate.now.pins }
@@ -18,7 +18,6 @@ pub(crate) fn gate_lanes(gate: &Gate, rows: &[Lanes]) -> Lanes
     operation_lanes(gate.kind.operation(), pins, rows).inverted(gate.kind.inverts())
 }
 
-// What an operation makes of the pins in each lane.
 fn operation_lanes(operation: Operation, pins: &[u32], rows: &[Lanes]) -> Lanes
     requires inside { All (λ pin. pin < length rows.now) pins.now }
     requires chosen { operation ≡ Operation.Chosen → length pins.now ≡ 3 }
@@ -33,7 +32,6 @@ fn operation_lanes(operation: Operation, pins: &[u32], rows: &[Lanes]) -> Lanes
     }
 }
 
-// What a fold makes of the pins in each lane.
 fn folded_lanes(fold: Fold, pins: &[u32], rows: &[Lanes]) -> Lanes
     requires { All (λ pin. pin < length rows.now) pins.now }
     ensures { (lane : ℕ) → lane < LANES → bit_at result lane ≡ folded_bit fold (seen_lane rows.now pins.now lane) }

@@ -1,4 +1,4 @@
-//! The circuit without a fault, at all vectors of a block at once (parallel-pattern simulation).
+//! The simulator of a circuit without a fault, for all vectors of a block at once (parallel-pattern simulation).
 
 ghost use Rattle.std.specs.Prelude.{◌≡◌, ℕ, ◌<◌, ◌≤◌, [], Some, None, length, slice_index_or, nat_lt, take, IfOk};
 ghost use Rattle.net_model.specs.declared.fault.Fault.TheVariants.{Free};
@@ -14,7 +14,7 @@ use net_model::Circuit;
 use std::alloc::{AllocError, Global};
 use std::marker::Model;
 
-/// The bits of all lines of a circuit without a fault, a lane for each vector of a block.
+/// The bits of all lines of a circuit without a fault, a lane for each vector of the block that was run last.
 #[derive(Drop)]
 pub struct GoodSim<'a> {
     circuit: &'a Circuit,
@@ -35,7 +35,7 @@ impl<'a> Model for GoodSim<'a> {
 }
 
 impl<'a> GoodSim<'a> {
-    /// The simulator of a circuit, which has run no block.
+    /// Returns a simulator of `circuit` that has run no block.
     pub fn new(alloc: Global, circuit: &'a Circuit) -> Result<GoodSim<'a>, AllocError>
         ensures { IfOk result (λ sim. sim ≡ good_sim_with circuit.now None) }
     {
@@ -54,7 +54,7 @@ impl<'a> GoodSim<'a> {
         self.circuit
     }
 
-    /// Evaluates the circuit at the vectors of a block.
+    /// Evaluates the circuit without a fault at the vectors of `block`.
     pub fn run(&mut self, block: &Block)
         requires { block.now.sources ≡ self.old.circuit.sources }
         ensures { self.new ≡ good_sim_with self.old.circuit (Some block.now.vectors) }
@@ -64,7 +64,7 @@ impl<'a> GoodSim<'a> {
         self.live = Some(block.live());
     }
 
-    /// The bit of a line at the vector of a lane.
+    /// Returns the bit of `line` at the vector of `lane`.
     pub fn bit(&self, line: u32, lane: u32) -> bool
         requires line { line < line_count self.now.circuit }
         requires lane { lane < length (vectors_of self.now) }
@@ -73,7 +73,7 @@ impl<'a> GoodSim<'a> {
         self.rows[line as usize].get(lane)
     }
 
-    /// The bits of a line at the vectors of all lanes. Nothing is said of the lanes that aren't live.
+    /// Returns the bit of `line` in each lane. Nothing is said of lanes without a vector.
     pub fn lanes(&self, line: u32) -> Lanes
         requires { line < line_count self.now.circuit }
         ensures { (lane : ℕ) → lane < length (vectors_of self.now) → IsGoodBit self.now line lane (bit_at result lane) }
@@ -81,7 +81,7 @@ impl<'a> GoodSim<'a> {
         self.rows[line as usize]
     }
 
-    /// 1 in the lanes of the last block's vectors.
+    /// Returns 1 in each lane that has a vector of the block that was run last, and 0 in all others.
     pub fn live(&self) -> Lanes
         ensures lanes { (lane : ℕ) → lane < LANES → bit_at result lane ≡ nat_lt lane (length (vectors_of self.now)) }
         ensures few { length (vectors_of self.now) ≤ LANES }
@@ -90,7 +90,7 @@ impl<'a> GoodSim<'a> {
     }
 }
 
-// Gives the first rows the bits of a block's sources.
+// Copies the rows of the block's sources into the first rows.
 fn place(block: &Block, rows: &mut [Lanes])
     requires { block.now.sources ≤ length rows.old }
     ensures { (lane : ℕ) → lane < length block.now.vectors → column (take block.now.sources rows.new) lane ≡ slice_index_or block.now.vectors lane [] }
@@ -100,7 +100,7 @@ fn place(block: &Block, rows: &mut [Lanes])
     }
 }
 
-// Gives the row of each gate its value, once the rows of the sources are set.
+// Sets the row of each gate to its value. The rows of the sources are set already.
 fn evaluate(circuit: &Circuit, rows: &mut [Lanes])
     requires { length rows.old ≡ line_count circuit.now }
     ensures sources { take circuit.now.sources rows.new ≡ take circuit.now.sources rows.old }

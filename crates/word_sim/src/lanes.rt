@@ -1,4 +1,5 @@
-//! One bit for each vector of a block.
+//! `Lanes`, a bit for each vector of a block, in four words of 64 bits that are one SIMD vector, and `LANES`, how many
+//! bits these are.
 
 ghost use Rattle.std.specs.Prelude.{◌≡◌, ℕ, ◌+◌, ◌/◌, ◌%◌, ◌<◌, ◌≤◌, ◌≢◌, Bool, List, [], ◌∷◌, ◌++◌, length, true, not, ◌&&◌, ◌||◌, nat_lt, IsTrue, ◌↔◌, if◌then◌else◌};
 ghost use Rattle.net_model.specs.Gate.{folded_bit, inverted};
@@ -37,7 +38,7 @@ impl Model for Lanes {
 }
 
 impl Lanes {
-    /// The same bit in every lane.
+    /// Returns lanes that all have `bit`.
     #[inline]
     pub fn all(bit: bool) -> Lanes
         ensures { (lane : ℕ) → lane < LANES → bit_at result lane ≡ bit }
@@ -47,7 +48,7 @@ impl Lanes {
         }
     }
 
-    /// The bit of a lane.
+    /// Returns the bit of `lane`.
     #[inline]
     pub fn get(&self, lane: u32) -> bool
         requires { lane < LANES }
@@ -57,7 +58,7 @@ impl Lanes {
         (self.words.to_array()[(lane / 64) as usize] >> (lane % 64)) & 1 == 1
     }
 
-    /// 1 in the lanes where both have 1.
+    /// Returns 1 in each lane in which both have 1.
     #[inline]
     pub fn and(self, other: Lanes) -> Lanes
         ensures { (lane : ℕ) → lane < LANES → bit_at result lane ≡ (bit_at self lane && bit_at other lane) }
@@ -67,7 +68,7 @@ impl Lanes {
         }
     }
 
-    /// 1 in the lanes where one of both has 1.
+    /// Returns 1 in each lane in which at least one of the two has 1.
     #[inline]
     pub fn or(self, other: Lanes) -> Lanes
         ensures { (lane : ℕ) → lane < LANES → bit_at result lane ≡ (bit_at self lane || bit_at other lane) }
@@ -77,7 +78,7 @@ impl Lanes {
         }
     }
 
-    /// 1 in the lanes where they differ.
+    /// Returns 1 in each lane in which the two differ.
     #[inline]
     pub fn xor(self, other: Lanes) -> Lanes
         ensures { (lane : ℕ) → lane < LANES → bit_at result lane ≡ (if bit_at self lane then not (bit_at other lane) else bit_at other lane) }
@@ -87,7 +88,7 @@ impl Lanes {
         }
     }
 
-    /// The other bit in every lane.
+    /// Returns the opposite bit in each lane.
     #[inline]
     pub fn not(self) -> Lanes
         ensures { (lane : ℕ) → lane < LANES → bit_at result lane ≡ not (bit_at self lane) }
@@ -95,7 +96,7 @@ impl Lanes {
         Lanes { words: !self.words }
     }
 
-    /// The other bit in every lane where `inverts` is true, else the same.
+    /// Returns the opposite bit in each lane if `inverts` is true, else the same bit.
     #[inline]
     pub fn inverted(self, inverts: bool) -> Lanes
         ensures { (lane : ℕ) → lane < LANES → bit_at result lane ≡ inverted inverts (bit_at self lane) }
@@ -103,7 +104,7 @@ impl Lanes {
         Lanes::all(inverts).xor(self)
     }
 
-    /// In each lane the bit of `zero` where the lane has 0, and that of `one` where it has 1.
+    /// Returns in each lane the bit of `zero` if `self` has 0 there, and the bit of `one` if it has 1.
     #[inline]
     pub fn select(self, zero: Lanes, one: Lanes) -> Lanes
         ensures { (lane : ℕ) → lane < LANES → bit_at result lane ≡ (if bit_at self lane then bit_at one lane else bit_at zero lane) }
@@ -111,7 +112,7 @@ impl Lanes {
         self.and(one).or(self.not().and(zero))
     }
 
-    /// What the fold gives of no bits, in every lane.
+    /// Returns in each lane the value of `fold` for no bits.
     #[inline]
     pub fn folded_none(fold: Fold) -> Lanes
         ensures { (lane : ℕ) → lane < LANES → bit_at result lane ≡ folded_bit fold [] }
@@ -122,7 +123,8 @@ impl Lanes {
         }
     }
 
-    /// One bit more in every lane: from what the fold gives of some bits, what it gives of these and the bit of `other`.
+    /// Adds one bit to the fold in each lane: if `self` has the value of `fold` for some bits, the result has its value
+    /// for these bits and the bit of `other`.
     #[inline]
     pub fn folded_more(self, fold: Fold, other: Lanes) -> Lanes
         ensures { (lane : ℕ) (bits : List Bool) → lane < LANES → bit_at self lane ≡ folded_bit fold bits → bit_at result lane ≡ folded_bit fold (bits ++ bit_at other lane ∷ []) }
@@ -134,7 +136,7 @@ impl Lanes {
         }
     }
 
-    /// Whether some lane has 1.
+    /// Returns whether some lane has 1.
     #[inline]
     pub fn any(self) -> bool
         ensures { IsTrue result ↔ ((lane : ℕ) × (lane < LANES) × IsTrue (bit_at self lane)) }
@@ -142,7 +144,7 @@ impl Lanes {
         self.words.reduce_or() != 0
     }
 
-    // The same bits but for one lane, which has this bit.
+    // Returns the same bits except in `lane`, which has `bit`.
     #[inline]
     pub(crate) fn with(self, lane: u32, bit: bool) -> Lanes
         requires { lane < LANES }
@@ -153,7 +155,7 @@ impl Lanes {
         self.with_word(at, with_bit(self.word(at), (lane % 64) as usize, bit))
     }
 
-    /// 1 in the first lanes, this many.
+    /// Returns 1 in the first `live` lanes, and 0 in all others.
     #[inline]
     pub fn first(live: u32) -> Lanes
         requires { live ≤ LANES }
@@ -169,7 +171,7 @@ impl Lanes {
         }
     }
 
-    /// The bits of 64 lanes as a word, the lowest first.
+    /// Returns the bits of the 64 lanes starting at lane `64 * at` as a word. The first lane is its lowest digit.
     #[inline]
     pub fn word(self, at: u32) -> u64
         requires { at < LANES / 64 }
@@ -178,7 +180,7 @@ impl Lanes {
         self.words.to_array()[at as usize]
     }
 
-    // The same bits but for the 64 lanes of a word, which have its binary digits.
+    // Returns the same bits except in the 64 lanes starting at lane `64 * at`, which have the binary digits of `word`.
     #[inline]
     pub(crate) fn with_word(self, at: u32, word: u64) -> Lanes
         requires { at < LANES / 64 }
@@ -193,7 +195,7 @@ impl Lanes {
     }
 }
 
-// The word of the lanes from `start` on that has 1 in the lanes below `live`.
+// Returns the word of the 64 lanes starting at `start`, with 1 in each lane below `live`.
 #[inline]
 fn first_word(live: u32, start: u32) -> u64
     ensures { (at : ℕ) → at < 64 → bit_of result at ≡ nat_lt (start + at) live }

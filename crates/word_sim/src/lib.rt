@@ -1,4 +1,4 @@
-//! Many vectors at once: the stream of vectors, blocks of them, and the circuit without a fault.
+//! Simulation of many vectors at once: the stream of vectors, blocks of vectors, and the circuit without a fault.
 #![tactic(auto)]
 
 mod block;

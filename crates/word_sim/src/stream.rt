@@ -25,13 +25,14 @@ const COUNTING: [u64; 6] = [
     0xffff_ffff_0000_0000,
 ];
 
-/// The stream of vectors in blocks of 64: the first six sources count through the first block, and all other words
-/// are those of the generator SplitMix64 (Steele, Lea and Flood, 2014) from the seed 0, by block and then source.
+/// The stream of vectors, in blocks of 64. In the first block the first six sources count: each has its own binary
+/// digit of the vector's number. All other words are those of the generator SplitMix64 (Steele, Lea and Flood, 2014)
+/// with the seed 0, by block and then source.
 #[derive(Drop)]
 pub struct Stream {
     rng: SplitMix64,
     sources: u32,
-    // The next block is the first one.
+    // Whether the next block is the first one.
     first: bool,
 }
 
@@ -46,7 +47,7 @@ impl Model for Stream {
 }
 
 impl Stream {
-    /// The stream from its first block on.
+    /// Returns the stream of vectors for `sources` sources, at its first block.
     pub fn new(sources: u32) -> Stream
         ensures { result ≡ stream_at sources 0 }
     {
@@ -57,7 +58,8 @@ impl Stream {
         }
     }
 
-    /// Puts the next blocks of the stream, at most `left`, into a block, and answers how many.
+    /// Puts the vectors of the next blocks of the stream into `block`, which is empty, and returns how many blocks
+    /// these are: `left`, but at most `LANES / 64`.
     pub fn fill(&mut self, left: u32, block: &mut Block) -> u32
         requires left { 1 ≤ left }
         requires empty { block.old.vectors ≡ [] }
@@ -75,7 +77,7 @@ impl Stream {
     }
 }
 
-// Writes the next blocks of the stream, this many, each into the lanes of a word.
+// Writes the next `count` blocks of the stream, each into the lanes of one word.
 fn draw_blocks(rng: &mut SplitMix64, first: bool, count: u32, rows: &mut [Lanes])
     requires { count ≤ LANES / 64 }
     ensures state { (done : ℕ) → IsAfter (length rows.old) done first rng.old → rng.new ≡ state_after (word_number (length rows.old) (done + count) 0) }
@@ -86,7 +88,7 @@ fn draw_blocks(rng: &mut SplitMix64, first: bool, count: u32, rows: &mut [Lanes]
     }
 }
 
-// Writes the next block of the stream into the lanes of a word.
+// Writes the next block of the stream into the lanes of word `at`.
 fn draw(rng: &mut SplitMix64, first: bool, at: u32, rows: &mut [Lanes])
     requires { at < LANES / 64 }
     ensures state { (done : ℕ) → IsAfter (length rows.old) done first rng.old → rng.new ≡ state_after (word_number (length rows.old) (done + 1) 0) }
@@ -98,7 +100,7 @@ fn draw(rng: &mut SplitMix64, first: bool, at: u32, rows: &mut [Lanes])
     }
 }
 
-// The word of a source in the next block of the stream.
+// Returns the word of `source` in the next block of the stream, which is the first block if `first` is true.
 fn source_word(rng: &mut SplitMix64, first: bool, source: usize) -> u64
     ensures word { result ≡ (if first && nat_lt source 6 then slice_index COUNTING source else (mix_u64 rng.old).0) }
     ensures state { rng.new ≡ (if first && nat_lt source 6 then rng.old else (mix_u64 rng.old).1) }

@@ -25,8 +25,8 @@ const MULTIPLEXER: CircuitParts<'static> = CircuitParts {
     positions: &[4],
 };
 
-// A circuit, the successors and the roots of its faults by number, how many numbers but 0 are roots, and whether the faults of
-// some pairs have one root.
+// A circuit, the successors and the roots of its faults by number, the number of roots without number 0, and whether
+// the faults of some pairs have the same root.
 #[derive(Clone, Copy)]
 struct Case {
     parts: CircuitParts<'static>,
@@ -46,7 +46,8 @@ const AND: Option<u32> = Some(5);
 
 const LAST: Option<u32> = Some(10);
 
-// Two ANDs, the second of a constant; a line with two readers; gates of one pin; no fault goes through a multiplexer.
+// Two ANDs, the second of a constant; a line with two readers; gates of one pin; a multiplexer, through which no fault
+// goes.
 const CASES: &[Case] = &[
     Case {
         parts: AND_OF_TWO,
@@ -99,7 +100,7 @@ const CASES: &[Case] = &[
     },
 ];
 
-// Whether a forest of so many faults has the successors and the roots.
+// Returns whether a forest of `faults` faults has the successors and the roots of the case.
 fn has_roots(forest: &Forest, faults: u32, case: &Case) -> bool
     requires { number_count forest.now ≡ faults }
 {
@@ -118,7 +119,7 @@ fn has_roots(forest: &Forest, faults: u32, case: &Case) -> bool
     forest.root_count() == case.count
 }
 
-// Whether it has one root for the faults of a pair, or not.
+// Returns whether the faults of each pair have the same root exactly if the case says so.
 fn has_pairs(forest: &Forest, faults: u32, case: &Case) -> bool
     requires { number_count forest.now ≡ faults }
 {
@@ -130,7 +131,7 @@ fn has_pairs(forest: &Forest, faults: u32, case: &Case) -> bool
     true
 }
 
-// Whether these faults of a circuit have them.
+// Returns whether these faults of a circuit collapse as the case says.
 fn are_collapsed(
     alloc: Global,
     circuit: &Circuit,
@@ -144,7 +145,6 @@ fn are_collapsed(
     Ok(has_roots(&forest, count, case) && has_pairs(&forest, count, case))
 }
 
-// Whether all faults of a circuit have them.
 fn is_collapsed(alloc: Global, circuit: &Circuit, case: &Case) -> Result<bool, Fail> {
     let faults = list(alloc, circuit)?;
     are_collapsed(alloc, circuit, &faults, case)

@@ -24,12 +24,12 @@ fn are_names(names: &Names, expected: &[&[u8]]) -> bool {
     true
 }
 
-// Whether a circuit has so many sources and these positions.
+// Returns whether a circuit has this number of sources and these positions.
 fn has_ends(circuit: &Circuit, sources: u32, positions: &[u32]) -> bool {
     circuit.sources() == sources && circuit.positions() == positions
 }
 
-// Whether statements are cut to so many sources, these positions and lines of these names.
+// Returns whether the cut of statements has this number of sources, these positions and lines with these names.
 fn are_cut(
     alloc: Global,
     statements: &Statements,
@@ -41,7 +41,7 @@ fn are_cut(
     Ok(has_ends(&design.circuit, sources, positions) && are_names(&design.names, names))
 }
 
-// Whether a netlist is.
+// The same for a netlist.
 fn is_cut(
     alloc: Global,
     text: &[u8],
@@ -53,7 +53,7 @@ fn is_cut(
     are_cut(alloc, &statements, sources, positions, names)
 }
 
-// A netlist, and what it is cut to.
+// A netlist, and its cut: the number of sources, the positions and the names of the lines.
 const CUTS: &[(&[u8], u32, &[u32], &[&[u8]])] = &[
     (b"q=DFF(d)\nd=NOT(q)", 1, &[1], &[b"q", b"d"]),
     (b"q=DFF(q)", 1, &[0], &[b"q"]),
@@ -77,7 +77,7 @@ fn flip_flops_are_cut(rt: HostRuntime) -> Result<(), Fail> {
     Ok(())
 }
 
-// Whether statements are cut as those of s27.
+// Returns whether statements are cut as those of s27.
 fn are_cut_s27(alloc: Global, statements: &Statements) -> Result<bool, NetFault> {
     let design = cut(alloc, statements)?;
     Ok(has_ends(&design.circuit, 7, &[8, 13, 14, 16]) && design.circuit.lines() == 17)
@@ -90,7 +90,7 @@ fn s27_is_cut(rt: HostRuntime) -> Result<(), Fail> {
     Ok(())
 }
 
-// Whether a loop at this place, along these names, is why there is no cut.
+// Returns whether there is no cut because of a loop at this place, along these names.
 fn is_loop(made: &Result<Design, NetFault>, place: Place, along: &[&[u8]]) -> bool {
     match made {
         Err(NetFault::Loop(found, names)) => *found == place && are_names(names, along),
@@ -98,19 +98,19 @@ fn is_loop(made: &Result<Design, NetFault>, place: Place, along: &[&[u8]]) -> bo
     }
 }
 
-// Whether the cut of statements has such a loop.
+// Returns whether the cut of statements has such a loop.
 fn have_loop(alloc: Global, statements: &Statements, place: Place, along: &[&[u8]]) -> bool {
     let made = cut(alloc, statements);
     is_loop(&made, place, along)
 }
 
-// Whether that of a netlist has.
+// Returns whether the cut of a netlist has such a loop.
 fn has_loop(alloc: Global, text: &[u8], place: Place, along: &[&[u8]]) -> Result<bool, NetFault> {
     let statements = read(alloc, text)?;
     Ok(have_loop(alloc, &statements, place, along))
 }
 
-// A netlist, and the place of its loop and the names along it.
+// A netlist, the place of its loop, and the names along it.
 const LOOPS: &[(&[u8], Place, &[&[u8]])] = &[
     (
         b"INPUT(a)\nx=AND(a,y)\ny=NOT(x)",

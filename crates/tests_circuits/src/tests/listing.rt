@@ -12,7 +12,7 @@ use sample_circuits::{AND_OF_TWO, CircuitParts, NOT_AND_OR, SHOWN_TWICE, circuit
 use std::alloc::{AllocError, Global};
 use std::test::Fail;
 
-// The circuit with these letters as the names of its lines.
+// Returns the circuit with these letters as the names of its lines.
 fn lettered(alloc: Global, circuit: Circuit, letters: &[u8]) -> Result<Design, AllocError>
     requires few { length letters.now < 2 ^ 31 }
     ensures circuit { IfOk result (λ design. design.circuit ≡ circuit) }
@@ -25,7 +25,7 @@ fn lettered(alloc: Global, circuit: Circuit, letters: &[u8]) -> Result<Design, A
     Ok(Design { circuit, names })
 }
 
-// The circuit of these parts with these letters as the names of its lines.
+// Returns the circuit of these parts with these letters as the names of its lines.
 fn design_of(alloc: Global, parts: CircuitParts, letters: &[u8]) -> Result<Design, Fail>
     ensures { IfOk result (λ design. length design.names ≡ line_count design.circuit) }
 {
@@ -73,7 +73,7 @@ fn push_names(
     Ok(())
 }
 
-// The names of all faults of a design by number, each with a semicolon after it.
+// Returns the names of all faults of a design by number, each with a semicolon after it.
 fn names_of(alloc: Global, design: &Design) -> Result<Vec<u8>, Fail>
     requires { length design.now.names ≡ line_count design.now.circuit }
 {
@@ -83,7 +83,7 @@ fn names_of(alloc: Global, design: &Design) -> Result<Vec<u8>, Fail>
     Ok(text)
 }
 
-// Whether they are these.
+// Returns whether these are the names of all faults of a design.
 fn are_names(alloc: Global, design: &Design, names: &[u8]) -> Result<bool, Fail>
     requires { length design.now.names ≡ line_count design.now.circuit }
 {
@@ -91,7 +91,7 @@ fn are_names(alloc: Global, design: &Design, names: &[u8]) -> Result<bool, Fail>
     Ok(found.as_slice() == names)
 }
 
-// Whether those of the design of some parts are these.
+// Returns whether these are the names of all faults of the circuit of some parts.
 fn has_names(
     alloc: Global,
     parts: CircuitParts,
@@ -102,8 +102,8 @@ fn has_names(
     are_names(alloc, &design, names)
 }
 
-// Parts, a letter for each line, and the names of all faults by number, each with a semicolon after it: stems alone, pins too,
-// and positions too.
+// Parts, a letter for each line, and the names of all faults by number, each with a semicolon after it: of stems alone,
+// of stems and pins, and of stems and positions.
 const NAMED: &[(CircuitParts, &[u8], &[u8])] = &[
     (
         AND_OF_TWO,
@@ -133,7 +133,7 @@ fn names_of_faults(rt: HostRuntime) -> Result<(), Fail> {
     Ok(())
 }
 
-// Sites that have no number: sole destinations, and what the circuit hasn't.
+// Sites that have no number: sole destinations, and sites that the circuit doesn't have.
 const UNNUMBERED: &[Site] = &[
     Pin(2, 1),
     Position(0),
@@ -143,7 +143,7 @@ const UNNUMBERED: &[Site] = &[
     Stem(3),
 ];
 
-// The first of them that has a number.
+// Returns the first of `UNNUMBERED` that has a number.
 fn first_numbered(faults: &FaultList) -> Option<Site> {
     for site in UNNUMBERED {
         if faults.number_of(&Stuck(*site, false)) != None {
@@ -153,7 +153,6 @@ fn first_numbered(faults: &FaultList) -> Option<Site> {
     None
 }
 
-// The same for a circuit.
 fn numbered_site(alloc: Global, circuit: &Circuit) -> Result<Option<Site>, Fail> {
     let faults = list(alloc, circuit)?;
     Ok(first_numbered(&faults))
@@ -166,7 +165,8 @@ fn sites_without_numbers(rt: HostRuntime) -> Result<(), Fail> {
     Ok(())
 }
 
-// Which lines are split, whether the position is reached, and which lines are relevant, of three lines and a position.
+// Returns which lines are split, whether the position is reached, and which lines are relevant, for three lines and one
+// position.
 fn marks(scope: &Scope) -> [bool; 7]
     requires split { length scope.now.split ≡ 3 }
     requires reached { length scope.now.reached ≡ 1 }
@@ -183,7 +183,7 @@ fn marks(scope: &Scope) -> [bool; 7]
     ]
 }
 
-// Whether two faults of a circuit have these marks.
+// Returns whether two faults of a circuit have these marks.
 fn have_marks(
     alloc: Global,
     circuit: &Circuit,
@@ -198,7 +198,7 @@ fn have_marks(
     Ok(marks(&scope) == *wanted)
 }
 
-// Whether two faults of the AND have them.
+// Returns whether two faults of the AND have these marks.
 fn are_marked(alloc: Global, f: &Fault, g: &Fault, wanted: &[bool; 7]) -> Result<bool, Fail> {
     let circuit = circuit(alloc, AND_OF_TWO)?;
     have_marks(alloc, &circuit, f, g, wanted)

@@ -12,7 +12,7 @@ use sample_circuits::{CircuitParts, PartsFault, bits, circuit, stands, takes, te
 use std::alloc::{AllocError, Global};
 use std::test::Fail;
 
-// What a gate gives at these bits of its pins, and - where it doesn't take so many.
+// Returns what a gate gives at these bits of its pins, or `-` if it doesn't take that number of pins.
 fn value(kind: Kind, seen: &Bits) -> &'static str {
     if !takes(kind, seen.len()) {
         "-"
@@ -23,7 +23,7 @@ fn value(kind: Kind, seen: &Bits) -> &'static str {
     }
 }
 
-// What it gives at each of these bits.
+// Returns what a gate gives at each of these lists of bits.
 fn values(alloc: Global, kind: Kind, pins: &[&str]) -> Result<String, AllocError> {
     let mut text = String::new(alloc);
     for seen in pins {
@@ -36,7 +36,8 @@ const TWO: &[&str] = &["00", "01", "10", "11"];
 
 const THREE: &[&str] = &["000", "001", "010", "011", "100", "101", "110", "111"];
 
-// A multiplexer gives its second pin where its first is 0, and else its third.
+// Kinds, bits of their pins, and what a gate gives at each. A multiplexer gives its second pin if its first is 0, and
+// else its third.
 const GATES: &[(Kind, &[&str], &str)] = &[
     (Kind::And, TWO, "0001"),
     (Kind::Nand, TWO, "1110"),
@@ -54,7 +55,7 @@ const GATES: &[(Kind, &[&str], &str)] = &[
     (Kind::Mux, THREE, "00110101"),
 ];
 
-// The first kind of gate that gives something else.
+// Returns the first kind of gate that gives something else.
 fn first_other(alloc: Global) -> Result<Option<Kind>, AllocError> {
     for (kind, pins, expected) in GATES {
         if values(alloc, *kind, pins)?.as_str() != *expected {
@@ -70,7 +71,7 @@ fn gates_on_bits(rt: HostRuntime) -> Result<(), Fail> {
     Ok(())
 }
 
-// Whether a circuit shows the answer at a vector under a fault, which both fit it.
+// Returns whether a circuit answers `answer` to a vector under a fault; both fit the circuit.
 fn shows(
     alloc: Global,
     circuit: &Circuit,
@@ -86,7 +87,7 @@ fn shows(
     Ok(text.as_str() == answer)
 }
 
-// The same where they may not fit it.
+// The same for a vector and a fault that may not fit the circuit; if one doesn't, it returns false.
 fn answers(
     alloc: Global,
     circuit: &Circuit,
@@ -168,7 +169,7 @@ const USERS: &[(&[u32], &[u32])] = &[
     (&[2], &[]),
 ];
 
-// Whether the lines have these.
+// Returns whether the lines have the users in `USERS`.
 fn has_users(wiring: &Wiring) -> bool
     requires readers { length wiring.now.readers ≡ 5 }
     requires showing { length wiring.now.showing ≡ 5 }
@@ -182,7 +183,8 @@ fn has_users(wiring: &Wiring) -> bool
     true
 }
 
-// Constants are gates that are ready from the start.
+// Returns whether a circuit is the chooser, with its order and its users. Constants are gates that are ready from the
+// start.
 fn is_chooser(chooser: &Circuit) -> bool {
     let wiring = chooser.wiring();
     chooser.sources() == 2
@@ -199,7 +201,7 @@ fn order_and_wiring(rt: HostRuntime) -> Result<(), Fail> {
     Ok(())
 }
 
-// Whether gates form a loop with this walk along it, or with none a circuit.
+// Returns whether gates form a loop with this walk along it, or form a circuit if `expected` is none.
 fn has_walk(built: &Result<Circuit, PartsFault>, expected: Option<&[u32]>) -> bool {
     match built {
         Ok(_circuit) => expected == None,
@@ -218,7 +220,7 @@ fn walks(alloc: Global, gates: &[(Kind, &[u32])], walk: Option<&[u32]>) -> bool 
     has_walk(&built, walk)
 }
 
-// Gates over one source, and the walk along their loop.
+// Gates over one source, and the walk along their loop, if they form one.
 const WALKS: &[(&[(Kind, &[u32])], Option<&[u32]>)] = &[
     (&[(Kind::Not, &[2]), (Kind::Mux, &[0, 0, 1])], Some(&[1, 2])),
     (&[(Kind::And, &[0, 2]), (Kind::Or, &[0, 2])], Some(&[2])),
@@ -233,7 +235,7 @@ fn walks_of_loops(rt: HostRuntime) -> Result<(), Fail> {
     Ok(())
 }
 
-// Whether a bit is set alone, in two rows of three.
+// Returns whether one bit can be set without the bit of the other row, in two rows of three bits.
 fn keeps(rows: &mut AnswerRows) -> bool
     requires { rows.old ≡ replicate 2 (replicate 3 false) }
 {

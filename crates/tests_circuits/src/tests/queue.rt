@@ -1,4 +1,4 @@
-//! Numbers that wait, taken from the lowest on.
+//! Numbers that wait; the lowest is taken first.
 
 ghost use Rattle.std.specs.Prelude.{◌≡◌, length};
 
@@ -6,7 +6,7 @@ use event_queue::NumberQueue;
 use sample_circuits::all_below;
 use std::test::Fail;
 
-// What is done with a queue: a number or several begin to wait, or the lowest is taken and is this one.
+// A step with a queue: a number or several begin to wait, or the lowest is taken and is the expected one.
 #[derive(Clone, Copy)]
 enum QueueStep<'a> {
     Insert(u32),
@@ -14,7 +14,7 @@ enum QueueStep<'a> {
     Take(Option<u32>),
 }
 
-// Whether the step can be done, and takes what it should. The queue has room for the numbers below a count.
+// Returns whether the step can be done, and takes what it should. The queue has the numbers below `count`.
 fn goes(queue: &mut NumberQueue, count: usize, step: QueueStep) -> bool
     requires { length queue.old ≡ count }
     ensures { length queue.new ≡ count }
@@ -61,7 +61,7 @@ fn the_lowest_is_taken_first(rt: HostRuntime) -> Result<(), Fail> {
     Ok(())
 }
 
-// Whether two numbers that wait are taken, and then none.
+// Returns whether two numbers that wait are taken, and then none.
 fn gives_two(queue: &mut NumberQueue) -> bool {
     queue.take_lowest(0) == Some(0)
         && queue.take_lowest(0) == Some(1)

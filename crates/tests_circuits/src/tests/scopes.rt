@@ -8,8 +8,8 @@ use sample_circuits::{AND_OF_TWO, CircuitParts, circuit, stands};
 use std::alloc::Global;
 use std::test::Fail;
 
-// Lines 4, 5 and 3 stand in a row: line 4 is the OR of sources 1 and 2, line 5 the AND of it and source 0, and line 3 its NOT.
-// Line 6 leads nowhere. Lines 3, 4 and 2 are shown.
+// Lines 4, 5 and 3 form a chain: line 4 is the OR of sources 1 and 2, line 5 is the AND of line 4 and source 0, and
+// line 3 is the NOT of line 5. Line 6 leads nowhere. Lines 3, 4 and 2 are shown.
 const ROW: CircuitParts<'static> = CircuitParts {
     sources: 3,
     gates: &[
@@ -31,7 +31,7 @@ struct Shown<'a> {
     relevant: &'a [u32],
 }
 
-// Whether each line and position is marked as the lists say.
+// Returns whether each line and position is marked as the lists say.
 fn are_marked(scope: &PairScope, wanted: &Shown) -> bool {
     let circuit = scope.circuit();
     for line in 0..circuit.lines() {
@@ -49,7 +49,7 @@ fn are_marked(scope: &PairScope, wanted: &Shown) -> bool {
     true
 }
 
-// Whether a pair is shown so.
+// Returns whether the scope shows a pair as `wanted` says.
 fn shows(scope: &mut PairScope, wanted: &Shown) -> bool {
     let circuit = scope.circuit();
     if !stands(circuit, wanted.f) || !stands(circuit, wanted.g) {
@@ -61,7 +61,7 @@ fn shows(scope: &mut PairScope, wanted: &Shown) -> bool {
         && scope.relevant_lines() == wanted.relevant
 }
 
-// The first of these pairs that isn't shown so, in one space for all.
+// Returns the first of these pairs that isn't shown as it says, with one space for all.
 fn first_other(alloc: Global, parts: CircuitParts, pairs: &[Shown]) -> Result<Option<usize>, Fail> {
     let circuit = circuit(alloc, parts)?;
     let mut scope = PairScope::new(alloc, &circuit)?;
@@ -73,8 +73,8 @@ fn first_other(alloc: Global, parts: CircuitParts, pairs: &[Shown]) -> Result<Op
     Ok(None)
 }
 
-// Pairs of the row: a source and nothing; one line twice; a line that leads to no position; a position; two of them; a pin;
-// the first again; a line that leads nowhere and a position; nothing.
+// Pairs of `ROW`: a source and nothing; one line twice; a line that leads to no position; a position; two positions; a
+// pin; the first pair again; a line that leads nowhere and a position; nothing.
 const ROW_PAIRS: &[Shown] = &[
     Shown {
         f: Stuck(Stem(1), true),
@@ -141,7 +141,7 @@ const ROW_PAIRS: &[Shown] = &[
     },
 ];
 
-// Both inputs of the AND, whose scope is the whole circuit, and its output.
+// Pairs of the AND: both inputs, with the whole circuit as their scope; and its output.
 const AND_PAIRS: &[Shown] = &[
     Shown {
         f: Stuck(Stem(1), true),

@@ -1,10 +1,10 @@
-//! Pieces, chosen calls that fail, and what is absent.
+//! Pieces, chosen calls that fail, and files that are absent.
 
 use diag_shelf::{MemoryShelf, Shelf, ShelfFault, SureShelf, print_all, read_all, write_all};
 use std::alloc::Global;
 use std::test::Fail;
 
-// Whether a shelf's file has these first bytes, one more than the limit at most.
+// Returns whether reading file `a` of a shelf up to a limit gives these bytes.
 fn is_read<S: Shelf>(
     alloc: Global,
     shelf: &mut S,
@@ -15,7 +15,7 @@ fn is_read<S: Shelf>(
     Ok(bytes.as_slice() == wanted)
 }
 
-// Whether a shelf has two texts after they are written and printed.
+// Returns whether a shelf has two texts after they were written and printed.
 fn is_told(shelf: &mut SureShelf) -> Result<bool, Fail> {
     shelf.create_file("b")?;
     write_all(shelf, b"12345678")?;
@@ -43,7 +43,8 @@ fn pieces_make_the_whole(rt: HostRuntime) -> Result<(), Fail> {
     Ok(())
 }
 
-// Whether the fourth call of a shelf fails, the second write of a file, and what was written before it stays.
+// Returns whether call number 4 of a shelf fails, which is the second write of a file, and what was written before it
+// stays.
 fn fails_once(alloc: Global, shelf: &mut MemoryShelf) -> Result<bool, Fail> {
     shelf.put_file("a", b"")?;
     let empty = is_read(alloc, shelf, 100, b"")?;
@@ -65,7 +66,8 @@ fn chosen_calls_fail(rt: HostRuntime) -> Result<(), Fail> {
     Ok(())
 }
 
-// Whether what is not open can't be opened, read or written.
+// Returns whether a file that is absent can't be opened, and nothing can be read or written without an opened or
+// created file.
 fn lacks_all(shelf: &mut SureShelf) -> bool {
     shelf.open_file("a") == Err(ShelfFault::Failed)
         && shelf.read(&mut [0u8; 2]) == Err(ShelfFault::Failed)

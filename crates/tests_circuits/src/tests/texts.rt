@@ -5,13 +5,13 @@ use net_model::Kind;
 use std::alloc::Global;
 use std::test::Fail;
 
-// Whether a text is refused by this rule, at this byte and line; or with None whether it is read.
+// Returns whether a text is refused by this rule, at this byte and line, or whether it is read if `expected` is none.
 fn is_refused(alloc: Global, text: &[u8], expected: Option<(NetKind, u32, u32)>) -> bool {
     let found = read(alloc, text);
     is_refusal(&found, expected)
 }
 
-// The same for what its reading answers.
+// The same for the result of its reading.
 fn is_refusal(found: &Result<Statements, NetFault>, expected: Option<(NetKind, u32, u32)>) -> bool {
     match found {
         Ok(_) => expected == None,
@@ -91,7 +91,7 @@ fn texts_are_refused(rt: HostRuntime) -> Result<(), Fail> {
     Ok(())
 }
 
-// Whether the names in the statements have numbers in the order in which they come, and their places.
+// Returns whether the names in the statements are numbered in order of first appearance, and have their places.
 fn are_numbered(netlist: &Statements) -> bool {
     let [
         Statement::Output(out),

@@ -8,7 +8,7 @@ use diagnose::{LogFault, LogKind};
 use std::alloc::Global;
 use std::test::Fail;
 
-// A plan of 5 classes of an AND of two sources, whose 4 patterns are 00, 10, 01 and 11.
+// A plan of 5 classes of an AND of two sources. Its 4 patterns are 00, 10, 01 and 11.
 const AND: &str =
     "adapt 1 1 4 5\nask 1 2\non 0\nask 2 2\non 0\nask 3 2\non 1\nclass 0\non 0\nclass 4\non 1\nclass 3\non 1\nask 0 2\non 1\nclass 1\non 0\nclass 2\nend\n";
 
@@ -18,7 +18,7 @@ const TWO_OF_FOUR: &str = "adapt 1 2 1 2\nask 0 2\non 00\nclass 0\non 11\nclass 
 // The plan of one class.
 const ONE: &str = "adapt 1 0 0 1\nclass 0\nend\n";
 
-// A plan, how many asks it has, and how many on one way.
+// A plan, how many asks it has, and the most that are on one way.
 const READ: &[(&str, u32, u32)] = &[(AND, 4, 3), (TWO_OF_FOUR, 1, 1), (ONE, 0, 0)];
 
 // A plan that is refused, by which rule, and at which line.
@@ -94,7 +94,7 @@ const NOT_FOLLOWED: &[(&str, &str, LogKind, u64)] = &[
     (ONE, "0 -\n", LogKind::Order, 1),
 ];
 
-// A well-formed plan.
+// Returns the well-formed plan of a text.
 fn plan_of(alloc: Global, text: &[u8]) -> Result<Plan, Fail>
     ensures { IfOk result IsWellFormed }
 {
@@ -105,7 +105,7 @@ fn plan_of(alloc: Global, text: &[u8]) -> Result<Plan, Fail>
     }
 }
 
-// Whether a plan is refused by this rule at this line.
+// Returns whether a plan is refused by this rule at this line.
 fn is_refused(alloc: Global, text: &[u8], kind: PlanKind, line: u64) -> Result<bool, Fail> {
     match read_plan(alloc, text) {
         Ok(_) => Ok(false),
@@ -114,7 +114,7 @@ fn is_refused(alloc: Global, text: &[u8], kind: PlanKind, line: u64) -> Result<b
     }
 }
 
-// Whether a plan leads by a log to this outcome.
+// Returns whether a log leads from a plan to this outcome.
 fn leads_to(alloc: Global, plan: &[u8], log: &[u8], end: Outcome) -> Result<bool, Fail> {
     let plan = plan_of(alloc, plan)?;
     match follow(alloc, &plan, log) {
@@ -124,7 +124,7 @@ fn leads_to(alloc: Global, plan: &[u8], log: &[u8], end: Outcome) -> Result<bool
     }
 }
 
-// Whether a log to a plan is refused by this rule at this line.
+// Returns whether a log to a plan is refused by this rule at this line.
 fn is_log_refused(
     alloc: Global,
     plan: &[u8],
@@ -140,7 +140,7 @@ fn is_log_refused(
     }
 }
 
-// A plan that asks so many patterns one after another, each where the one before it was answered 0.
+// Returns a plan that asks `asks` patterns one after another, each if the one before it was answered 0.
 fn chain(alloc: Global, asks: u32) -> Result<String, Fail> {
     let mut text = String::new(alloc);
     writeln!(text, "adapt 1 1 {asks} {asks}")?;
@@ -157,7 +157,7 @@ fn chain(alloc: Global, asks: u32) -> Result<String, Fail> {
     Ok(text)
 }
 
-// The log of so many answers 0.
+// Returns the log of `asks` answers 0.
 fn all_zero(alloc: Global, asks: u32) -> Result<String, Fail> {
     let mut text = String::new(alloc);
     for pattern in 0..asks {
@@ -178,7 +178,7 @@ fn plans_are_read_and_written(rt: HostRuntime) -> Result<(), Fail> {
     Ok(())
 }
 
-// Whether a plan has so many asks.
+// Returns whether the plan has `asks` asks.
 fn has_asks(plan: &Plan, asks: u32) -> bool
     requires { IsWellFormed plan.now }
 {

@@ -10,6 +10,7 @@ use ranked_diag::read_partial_of;
 use sample_circuits::{AND_OF_TWO, CircuitParts, circuit};
 use std::alloc::Global;
 use std::test::Fail;
+use suspect_scores::Logged;
 use table_dicts::Setting;
 
 // The ISCAS-85 circuit c17: the sources 1, 2, 3, 6, 7, the gates 10, 11, 16, 19, 22, 23, and the outputs 22, 23.
@@ -26,7 +27,8 @@ const C17: CircuitParts<'static> = CircuitParts {
     positions: &[9, 10],
 };
 
-// The inputs a and b, a cell q, the gates d, z and n, of which n has no destinations, and the outputs z and a. The cell reads d.
+// The inputs a and b, a cell q, the gates d, z and n, and the outputs z and a. The gate n has no destinations, and the
+// cell reads d.
 const CELLS: CircuitParts<'static> = CircuitParts {
     sources: 3,
     gates: &[
@@ -52,7 +54,8 @@ const TWO_LINES: CircuitParts<'static> = CircuitParts {
 // The first letter of a kind, two lines, how many failing patterns are explained, and how many others aren't.
 type Row = (char, u32, u32, u32, u32);
 
-// A log, how many bridges are asked for, how many failing patterns may be left, the bridges, and how many are found and exact.
+// A log, the most bridges that are listed, how many failing patterns may be left, the bridges, and how many are found
+// and exact.
 type BridgedLog = (&'static str, u32, u32, &'static [Row], (u64, u64));
 
 // A circuit, patterns that each split a class, and logs.
@@ -69,10 +72,10 @@ const PATTERNS: &[&str] = &[
 
 const EXPECTED: &str = "0 00\n1 00\n2 11\n3 00\n4 10\n5 11\n6 11\n7 00\n8 00\n9 01\n10 00\n";
 
-// The net 2 at 0.
+// Net 2 at 0.
 const STUCK: &str = "0 00\n1 00\n2 00\n3 00\n4 10\n5 00\n6 00\n7 00\n8 00\n9 01\n10 00\n";
 
-// The nets 10 and 19, of which the 0 wins.
+// Nets 10 and 19 shorted, so that a 0 wins.
 const BRIDGED: &str = "0 00\n1 00\n2 11\n3 00\n4 11\n5 11\n6 11\n7 00\n8 00\n9 11\n10 00\n";
 
 const CASES: &[Case] = &[
@@ -254,18 +257,19 @@ fn are_bridges(list: &Bridges, logged: &BridgedLog) -> bool {
     (list.found(), list.exact()) == logged.4
 }
 
-// Whether the log leaves these bridges.
+// Returns whether the log leaves these bridges.
 fn is_left(alloc: Global, setting: &Setting, logged: &BridgedLog) -> Result<bool, Fail>
     requires { IsScored setting.now }
 {
     let patterns = setting.patterns.as_slice().len() as u32;
     let positions = setting.subject.circuit().positions().len() as u32;
     let partial = read_partial_of(alloc, patterns, positions, logged.0.as_bytes())?;
-    let list = bridges(alloc, setting, &partial, logged.1, logged.2)?;
+    let read = Logged::new(alloc, setting, &partial)?;
+    let list = bridges(alloc, setting, &read, logged.1, logged.2)?;
     Ok(are_bridges(&list, logged))
 }
 
-// Whether all logs do.
+// Returns whether each log leaves its bridges.
 fn are_left(alloc: Global, setting: &Setting, all: &[BridgedLog]) -> Result<bool, Fail>
     requires { IsScored setting.now }
 {

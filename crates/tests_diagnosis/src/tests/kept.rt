@@ -11,14 +11,14 @@ use sample_circuits::bits;
 use std::alloc::Global;
 use std::test::Fail;
 
-// Vectors of which each splits a class of those before it, and the classes of all of them.
+// Vectors that each split a class of those before them, and the classes of all of them.
 #[derive(Drop)]
 pub(crate) struct Kept {
     pub(crate) patterns: Vectors,
     pub(crate) classes: Classes,
 }
 
-// What is kept of these vectors.
+// Returns what is kept of these vectors.
 pub(crate) fn kept_of(alloc: Global, subject: &Subject, texts: &[&str]) -> Result<Kept, Fail>
     ensures widths { IfOk result (λ kept. All (λ v. length v ≡ subject.now.sources) kept.patterns) }
     ensures few { IfOk result (λ kept. length kept.patterns < 2 ^ 32) }
@@ -64,7 +64,7 @@ fn keep_vector(circuit: &Circuit, keeper: &mut Keeper, v: &Vector) -> Result<(),
     Ok(())
 }
 
-// What a keeper has kept.
+// Returns what a keeper has kept.
 fn kept_by(alloc: Global, keeper: Keeper) -> Result<Kept, Fail>
     ensures widths { IfOk result (λ kept. All (λ v. length v ≡ keeper.entry.circuit.sources) kept.patterns) }
     ensures few { IfOk result (λ kept. length kept.patterns < 2 ^ 32) }
@@ -75,7 +75,7 @@ fn kept_by(alloc: Global, keeper: Keeper) -> Result<Kept, Fail>
     Ok(Kept { patterns, classes })
 }
 
-// These vectors as a list, which isn't long.
+// Returns these vectors as a list of at most 1,000.
 fn listed(alloc: Global, vectors: Vec<Vector>) -> Result<Vectors, Fail>
     ensures list { IfOk result (λ list. list ≡ vectors.items) }
     ensures few { IfOk result (λ list. length list < 2 ^ 32) }

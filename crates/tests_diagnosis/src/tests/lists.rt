@@ -1,11 +1,11 @@
-//! Lists of vectors that are read and that are refused.
+//! Lists of vectors that are read, and lists that are refused.
 
 use diagnose::{LogFault, LogKind, read_vectors};
 use net_model::{Vector, Vectors};
 use std::alloc::{AllocError, Global};
 use std::test::Fail;
 
-// Adds the bits, with a blank behind them.
+// Appends the bits, followed by a blank.
 fn push_bits(text: &mut String, bits: &Vector) -> Result<(), AllocError> {
     for at in 0..bits.len() {
         text.push_str(if bits.get(at) { "1" } else { "0" })?;
@@ -13,7 +13,7 @@ fn push_bits(text: &mut String, bits: &Vector) -> Result<(), AllocError> {
     text.push_str(" ")
 }
 
-// Adds the bits of each vector, with a blank behind it.
+// Appends the bits of each vector, followed by a blank.
 fn push_all(text: &mut String, vectors: &Vectors) -> Result<(), AllocError> {
     for v in vectors.as_slice() {
         push_bits(text, v)?;
@@ -21,7 +21,7 @@ fn push_all(text: &mut String, vectors: &Vectors) -> Result<(), AllocError> {
     Ok(())
 }
 
-// Whether vectors have these bits.
+// Returns whether the vectors have these bits.
 fn are_spelled(alloc: Global, vectors: &Vectors, expected: &str) -> Result<bool, Fail> {
     let mut text = String::new(alloc);
     push_all(&mut text, vectors)?;
@@ -33,7 +33,7 @@ fn is_read(alloc: Global, sources: u32, list: &str, expected: &str) -> Result<bo
     are_spelled(alloc, &vectors, expected)
 }
 
-// Whether a list is refused for breaking this rule in this line.
+// Returns whether a list is refused by this rule at this line.
 fn is_refused(alloc: Global, sources: u32, list: &str, expected: (LogKind, u64)) -> bool {
     match read_vectors(alloc, sources, list.as_bytes()) {
         Err(LogFault::At(kind, line)) => (kind, line) == expected,

@@ -10,8 +10,8 @@ use std::alloc::{AllocError, Global};
 use std::test::Fail;
 use table_dicts::{AnswerTable, Dict, DictKind, full, pass_fail};
 
-// The patterns and numbers at which the AND answers 1. The patterns are 00, 10, 01 and 11, and the numbers the fault-free
-// circuit, each source at 0 and at 1, and the gate at 0 and at 1.
+// The patterns and numbers at which the AND answers 1. The patterns are 00, 10, 01 and 11. The numbers are the
+// fault-free circuit, each source at 0 and at 1, and the gate at 0 and at 1.
 const ONES: &[(u32, u32)] = &[
     (3, 0),
     (2, 2),
@@ -58,7 +58,7 @@ fn dict_at(alloc: Global, kind: DictKind, table: &AnswerTable) -> Result<Dict, A
     }
 }
 
-// Whether observed answers list these numbers.
+// Returns whether observed answers list these numbers.
 fn list_these(
     alloc: Global,
     dict: &Dict,
@@ -73,7 +73,7 @@ fn list_these(
     Ok(found.as_slice() == listed)
 }
 
-// Whether a log does.
+// Returns whether a log lists these numbers.
 fn lists(alloc: Global, dict: &Dict, log: &str, listed: &[u32]) -> Result<bool, Fail>
     requires grouped { IsGroupedDict dict.now }
     requires shaped { IsShaped dict.now }
@@ -82,7 +82,7 @@ fn lists(alloc: Global, dict: &Dict, log: &str, listed: &[u32]) -> Result<bool, 
     Ok(list_these(alloc, dict, &observed, listed)?)
 }
 
-// Whether it does with the dictionary of a kind.
+// Returns whether a log lists these numbers with the dictionary of a kind.
 fn lists_by(
     alloc: Global,
     kind: DictKind,
@@ -96,7 +96,7 @@ fn lists_by(
     lists(alloc, &dict, log, listed)
 }
 
-// Whether it does with both dictionaries.
+// Returns whether a log lists these numbers with both dictionaries, pass/fail and full.
 fn are_listed(alloc: Global, table: &AnswerTable, log: &str, listed: &[u32]) -> Result<bool, Fail>
     requires { 0 < table.now.numbers }
 {

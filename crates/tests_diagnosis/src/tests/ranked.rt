@@ -52,7 +52,7 @@ fn set_ones(table: &mut AnswerTable, ones: &[(u32, u32, u32)]) -> Result<(), Fai
     Ok(())
 }
 
-// The dictionary of a kind; the baselines of a same/different one are what the fault-free circuit answers.
+// Returns the dictionary of a kind. The baselines of a same/different one are what the fault-free circuit answers.
 fn dict_at(alloc: Global, kind: DictKind, table: &AnswerTable) -> Result<Dict, AllocError>
     requires { 0 < table.now.numbers }
     ensures grouped { IfOk result IsGroupedDict }
@@ -91,7 +91,7 @@ fn are_ranks(ranking: &Ranking, ranks: &[(u64, u32)]) -> bool {
     true
 }
 
-// Whether a log is ranked so by a dictionary.
+// Returns whether a dictionary ranks a log as its case says.
 fn is_ranked(alloc: Global, dict: &Dict, case: &Case) -> Result<bool, Fail>
     requires grouped { IsGroupedDict dict.now }
     requires shaped { IsShaped dict.now }
@@ -105,7 +105,7 @@ fn is_ranked(alloc: Global, dict: &Dict, case: &Case) -> Result<bool, Fail>
     Ok(are_ranks(&ranks, case.2))
 }
 
-// Whether a log is ranked so by the dictionary of each kind.
+// Returns whether the dictionary of each kind ranks a log as its case says.
 fn is_ranked_by_all(alloc: Global, circuit: &DrawnCircuit, case: &Case) -> Result<bool, Fail> {
     let table = table_of(alloc, circuit)?;
     let full = dict_at(alloc, DictKind::Full, &table)?;
@@ -118,8 +118,8 @@ fn is_ranked_by_all(alloc: Global, circuit: &DrawnCircuit, case: &Case) -> Resul
     )
 }
 
-// An AND of two sources with the patterns 00, 10, 01 and 11, and as numbers the fault-free circuit, each source at 0 and
-// at 1, and the gate at 0 and at 1.
+// An AND of two sources with the patterns 00, 10, 01 and 11. The numbers are the fault-free circuit, each source at 0
+// and at 1, and the gate at 0 and at 1.
 const AND: DrawnCircuit = DrawnCircuit {
     patterns: 4,
     numbers: 7,
@@ -163,7 +163,7 @@ const AND_LOGS: &[Case] = &[
     ),
 ];
 
-// Two positions, of which a fault is seen at the second one.
+// Two positions, with a fault that is seen at the second one.
 const TWO: DrawnCircuit = DrawnCircuit {
     patterns: 1,
     numbers: 2,
@@ -218,7 +218,7 @@ fn ranked_numbers(rt: HostRuntime) -> Result<(), Fail> {
     Ok(())
 }
 
-// A log, and the rule that it breaks and the line; none where it is read.
+// A log, and the rule that it breaks and the line, or none if it is read.
 type RefusedLog = (&'static str, Option<(LogKind, u64)>);
 
 const REFUSALS: &[RefusedLog] = &[
@@ -239,7 +239,7 @@ const REFUSALS: &[RefusedLog] = &[
     ("", None),
 ];
 
-// Whether a log is read, or breaks the rule in the line.
+// Returns whether the log is read, or breaks the rule in the line.
 fn is_answered(alloc: Global, dict: &Dict, case: &RefusedLog) -> bool {
     match read_partial(alloc, dict, case.0.as_bytes()) {
         Ok(_partial) => case.1 == None,

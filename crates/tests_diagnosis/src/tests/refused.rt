@@ -5,10 +5,10 @@ use std::alloc::Global;
 use std::test::Fail;
 use table_dicts::{AnswerTable, Dict, full};
 
-// A log, and the rule that it breaks and the line; none where it is read.
+// A log, and the rule that it breaks and the line, or none if it is read.
 type Case = (&'static str, Option<(LogKind, u64)>);
 
-// Whether a log is read, or breaks the rule in the line.
+// Returns whether the log is read, or breaks the rule in the line.
 fn is_answered(alloc: Global, dict: &Dict, case: &Case) -> bool {
     match read_log(alloc, dict, case.0.as_bytes()) {
         Ok(_observed) => case.1 == None,
@@ -17,7 +17,7 @@ fn is_answered(alloc: Global, dict: &Dict, case: &Case) -> bool {
     }
 }
 
-// The first log of a dictionary of which it is not so.
+// Returns the first log for which this isn't so.
 fn first_wrong(alloc: Global, dict: &Dict, cases: &[Case]) -> Option<usize> {
     for (at, case) in cases.iter().enumerate() {
         if !is_answered(alloc, dict, case) {
@@ -27,7 +27,7 @@ fn first_wrong(alloc: Global, dict: &Dict, cases: &[Case]) -> Option<usize> {
     None
 }
 
-// The full dictionary of one number, which answers 0 at so many patterns and positions.
+// Returns the full dictionary of one number, which answers 0 at all patterns and positions.
 fn dict_of(alloc: Global, patterns: u32, positions: u32) -> Result<Dict, Fail> {
     let table = AnswerTable::zeros(alloc, patterns, 1, positions)?;
     Ok(full(alloc, &table)?)

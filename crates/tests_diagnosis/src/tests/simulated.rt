@@ -1,4 +1,4 @@
-//! What is written of vectors of small circuits.
+//! Texts of simulations of small circuits, and of more vectors than there are lanes.
 
 ghost use Rattle.std.specs.Prelude.{◌≡◌, ◌<◌, All, IfOk, length};
 ghost use Rattle.sim_listing.specs.VectorTexts.{HaveSameVectors};
@@ -25,7 +25,7 @@ const NOTHING_SHOWN: CircuitParts<'static> = CircuitParts {
     positions: &[],
 };
 
-// The list of the vectors of these digits, each with one for each source.
+// Returns the list of the vectors with these digits, one digit for each source.
 fn listed(alloc: Global, circuit: &Circuit, digits: &[&str]) -> Result<Vectors, Fail>
     ensures { IfOk result (λ vectors. All (λ v. length v ≡ circuit.now.sources) vectors) }
 {
@@ -36,7 +36,7 @@ fn listed(alloc: Global, circuit: &Circuit, digits: &[&str]) -> Result<Vectors, 
     Ok(vectors)
 }
 
-// The vector of these digits, which has one for each source.
+// Returns the vector with these digits, one for each source.
 fn vector_of(alloc: Global, circuit: &Circuit, digits: &str) -> Result<Vector, Fail>
     ensures { IfOk result (λ v. length v ≡ circuit.now.sources) }
 {
@@ -47,7 +47,7 @@ fn vector_of(alloc: Global, circuit: &Circuit, digits: &str) -> Result<Vector, F
     Ok(vector)
 }
 
-// Adds the text of a simulation, vector after vector.
+// Appends the text of a simulation, vector after vector.
 fn push_texts(
     alloc: Global,
     circuit: &Circuit,
@@ -78,7 +78,7 @@ fn push_text(
     text.extend_from_slice(own.as_bytes())
 }
 
-// Whether this is the text of a simulation of a circuit at vectors.
+// Returns whether this is the text of a simulation of a circuit at vectors.
 fn is_text(
     alloc: Global,
     circuit: &Circuit,
@@ -92,7 +92,7 @@ fn is_text(
     Ok(text.as_slice() == wanted)
 }
 
-// The same at the vectors of these digits.
+// As `is_text`, at the vectors with these digits.
 fn is_text_at(
     alloc: Global,
     circuit: &Circuit,
@@ -103,7 +103,7 @@ fn is_text_at(
     Ok(is_text(alloc, circuit, vectors.as_slice(), wanted)?)
 }
 
-// The same of the circuit of these parts.
+// As `is_text_at`, of the circuit with these parts.
 fn is_text_of(
     alloc: Global,
     parts: CircuitParts,
@@ -144,7 +144,7 @@ fn texts_of_small_circuits(rt: HostRuntime) -> Result<(), Fail> {
     Ok(())
 }
 
-// The text of a wire at so many vectors 0, and then at a vector 1.
+// Returns the text of a wire at `count` vectors 0, and then at a vector 1.
 fn wire_text(alloc: Global, count: u32) -> Result<String, AllocError> {
     let mut text = String::new(alloc);
     push_lines_at_zero(&mut text, count)?;
@@ -152,7 +152,7 @@ fn wire_text(alloc: Global, count: u32) -> Result<String, AllocError> {
     Ok(text)
 }
 
-// Adds the lines of a wire at so many vectors 0, from number 0 on.
+// Appends the lines of a wire at `count` vectors 0, numbered starting at 0.
 fn push_lines_at_zero(text: &mut String, count: u32) -> Result<(), AllocError> {
     for number in 0..count {
         write!(text, "pattern {number} answer 0\nfault 2 1\nfault 4 1\n")?;
@@ -160,7 +160,7 @@ fn push_lines_at_zero(text: &mut String, count: u32) -> Result<(), AllocError> {
     Ok(())
 }
 
-// One vector more than a block has.
+// There is one vector more than a block has lanes.
 #[test]
 fn texts_of_two_blocks(rt: HostRuntime) -> Result<(), Fail> {
     let mut digits = ["0"; LANES as usize + 1];

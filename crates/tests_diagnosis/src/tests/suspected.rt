@@ -12,7 +12,7 @@ use ranked_diag::read_partial_of;
 use sample_circuits::{AND_OF_TWO, CircuitParts, circuit};
 use std::alloc::Global;
 use std::test::Fail;
-use suspect_scores::{Choice, Cover, Suspect, Suspects, cover, expected_log, suspects};
+use suspect_scores::{Choice, Cover, Logged, Suspect, Suspects, cover, expected_log, suspects};
 use table_dicts::Setting;
 
 // The ISCAS-85 circuit c17: the sources 1, 2, 3, 6, 7, the gates 10, 11, 16, 19, 22, 23, and the outputs 22, 23.
@@ -35,24 +35,24 @@ const NOTHING: CircuitParts<'static> = CircuitParts {
     positions: &[],
 };
 
-// A log, how many suspects are asked for, and which there are: number, explained, hit, missed and false.
+// A log, the most suspects that are listed, and which there are: number, explained, hit, missed and false.
 type SuspectedLog = (&'static str, u32, &'static [(u32, u32, u64, u64, u64)]);
 
 // A log, and which numbers cover its failing patterns, with how many each explains that none before it does.
 type Covered = (&'static str, &'static [(u32, u32)]);
 
-// The log without a fault, and others.
+// The log without a fault, logs with their suspects, and logs with their covers.
 type Told = (&'static str, &'static [SuspectedLog], &'static [Covered]);
 
-// A circuit, patterns that each split a class, and what is told of them.
+// A circuit, patterns that each split a class, and what holds for them.
 type Case = (CircuitParts<'static>, &'static [&'static str], Told);
 
-// A circuit, two lists of vectors that make the classes together, and what is told of the second.
+// A circuit, two lists of vectors that make the classes together, and what holds for the second.
 type FinerCase = (CircuitParts<'static>, &'static str, &'static str, Told);
 
 const EXPECTED: &str = "0 00\n1 00\n2 11\n3 00\n4 10\n5 11\n6 11\n7 00\n8 00\n9 01\n10 00\n";
 
-// The net 2 at 0.
+// Net 2 at 0.
 const STUCK: &str = "0 00\n1 00\n2 00\n3 00\n4 10\n5 00\n6 00\n7 00\n8 00\n9 01\n10 00\n";
 
 // A bridge.
@@ -135,12 +135,12 @@ const CASES: &[Case] = &[
     (NOTHING, &[], ("", &[("", 20, &[])], &[("", &[])])),
 ];
 
-// A list of eight vectors, of which two split no class, and what a chip without a fault answers to it.
+// A list of eight vectors, and what a chip without a fault answers to it. Two of the vectors split no class.
 const LIST: &str = "01111\n10010\n10001\n00100\n01011\n10010\n10011\n11111\n";
 
 const GOOD: &str = "0 00\n1 00\n2 01\n3 00\n4 11\n5 00\n6 01\n7 10\n";
 
-// The net 2 at 0, and a bridge.
+// Net 2 at 0, and a bridge.
 const STUCK_AT_LIST: &str = "0 00\n1 00\n2 01\n3 00\n4 01\n5 00\n6 01\n7 10\n";
 
 const BRIDGED_AT_LIST: &str = "0 00\n1 00\n2 11\n3 00\n4 11\n5 00\n6 11\n7 11\n";
@@ -183,7 +183,7 @@ const FINER_CASES: &[FinerCase] = &[
             &[(STUCK_AT_LIST, &[(3, 1)]), (BRIDGED_AT_LIST, &[(23, 3)])],
         ),
     ),
-    // The vectors before the list tell 26 from 3, and the list doesn't.
+    // The vectors before the list distinguish 26 from 3, and the list doesn't.
     (
         C17,
         "10100\n00101\n00111\n01000\n",
@@ -205,7 +205,7 @@ const FINER_CASES: &[FinerCase] = &[
             &[(STUCK_AT_LIST, &[(3, 1)])],
         ),
     ),
-    // To the vector before the list 2, 4 and 6 answer as 0 does, and the list tells them from it.
+    // To the vector before the list, 2, 4 and 6 answer as 0 does, and the list distinguishes them from it.
     (
         AND_OF_TWO,
         "11\n",
@@ -242,14 +242,15 @@ fn are_suspects(listed: &Suspects, wanted: &[(u32, u32, u64, u64, u64)]) -> bool
     true
 }
 
-// Whether the log gives these suspects.
+// Returns whether the log gives these suspects.
 fn is_suspected(alloc: Global, setting: &Setting, logged: &SuspectedLog) -> Result<bool, Fail>
     requires { IsScored setting.now }
 {
     let patterns = setting.patterns.as_slice().len() as u32;
     let positions = setting.subject.circuit().positions().len() as u32;
     let partial = read_partial_of(alloc, patterns, positions, logged.0.as_bytes())?;
-    let listed = suspects(alloc, setting, &partial, logged.1)?;
+    let read = Logged::new(alloc, setting, &partial)?;
+    let listed = suspects(alloc, setting, &read, logged.1)?;
     Ok(are_suspects(&listed, logged.2))
 }
 
@@ -280,14 +281,15 @@ fn are_choices(choices: &Cover, wanted: &[(u32, u32)]) -> bool {
     true
 }
 
-// Whether the log has this cover.
+// Returns whether the log has this cover.
 fn is_covered(alloc: Global, setting: &Setting, covered: &Covered) -> Result<bool, Fail>
     requires { IsScored setting.now }
 {
     let patterns = setting.patterns.as_slice().len() as u32;
     let positions = setting.subject.circuit().positions().len() as u32;
     let partial = read_partial_of(alloc, patterns, positions, covered.0.as_bytes())?;
-    let choices = cover(alloc, setting, &partial)?;
+    let read = Logged::new(alloc, setting, &partial)?;
+    let choices = cover(alloc, setting, &read)?;
     Ok(are_choices(&choices, covered.1))
 }
 
@@ -302,7 +304,7 @@ fn are_covered(alloc: Global, setting: &Setting, all: &[Covered]) -> Result<bool
     Ok(true)
 }
 
-// Whether a chip without a fault gives this log, and the others their suspects and covers.
+// Returns whether a chip without a fault gives this log, and the others have their suspects and covers.
 fn is_told(alloc: Global, setting: &Setting, told: &Told) -> Result<bool, Fail>
     requires { IsScored setting.now }
 {
@@ -338,7 +340,7 @@ fn suspects_of_logs(rt: HostRuntime) -> Result<(), Fail> {
     Ok(())
 }
 
-// The vectors of a list, which isn't long.
+// Returns the vectors of a list of at most 1,000.
 fn list_of(alloc: Global, circuit: &Circuit, text: &str) -> Result<Vectors, Fail>
     ensures widths { IfOk result (λ list. All (λ v. length v ≡ circuit.now.sources) list) }
     ensures few { IfOk result (λ list. length list < 2 ^ 32) }
@@ -350,7 +352,7 @@ fn list_of(alloc: Global, circuit: &Circuit, text: &str) -> Result<Vectors, Fail
     Ok(list)
 }
 
-// Whether so it is told of the second list by the classes that both make together.
+// Returns whether this holds for the second list, by the classes that both lists make together.
 fn is_finer(alloc: Global, subject: &Subject, case: &FinerCase) -> Result<bool, Fail> {
     let before = list_of(alloc, subject.circuit(), case.1)?;
     let list = list_of(alloc, subject.circuit(), case.2)?;

@@ -1,4 +1,4 @@
-//! Whether members of one class have the same answers, found by a look at each number.
+//! Whether members of one class have the same answers, decided number by number.
 
 ghost use Rattle.std.specs.Prelude.{◌≡◌, ◌<◌, length, IsTrue};
 ghost use Rattle.dict_rows.specs.AnswerTable.{answer_to};
@@ -8,7 +8,7 @@ ghost use Rattle.tests_dictionaries.specs.Leads.{AnswerAsLeads};
 use class_refine::Classes;
 use table_dicts::AnswerTable;
 
-/// Whether members of one class have the same answers.
+/// Returns whether members of one class have the same answers.
 pub(crate) fn alike(table: &AnswerTable, classes: &Classes) -> bool
     requires { length classes.now.class_of ≡ table.now.numbers }
     ensures { IsTrue result → AnswerAlike classes.now table.now }
@@ -21,7 +21,7 @@ pub(crate) fn alike(table: &AnswerTable, classes: &Classes) -> bool
     true
 }
 
-// Whether each number answers a pattern as the lowest member of its class.
+// Returns whether each number answers a pattern as the lowest member of its class does.
 fn alike_at(table: &AnswerTable, classes: &Classes, pattern: u32) -> bool
     requires numbers { length classes.now.class_of ≡ table.now.numbers }
     requires pattern { pattern < length table.now.rows }
@@ -36,7 +36,6 @@ fn alike_at(table: &AnswerTable, classes: &Classes, pattern: u32) -> bool
     true
 }
 
-// Whether two numbers have the same answer to a pattern.
 fn same_answers(table: &AnswerTable, pattern: u32, left: u32, right: u32) -> bool
     requires pattern { pattern < length table.now.rows }
     requires left { left < table.now.numbers }

@@ -1,4 +1,4 @@
-//! Baselines of small tables.
+//! Tests of the baselines that are chosen for small tables.
 
 ghost use Rattle.std.specs.Prelude.{◌≡◌, ◌<◌, length, IfOk};
 ghost use Rattle.dict_rows.specs.Rows.{AreRows};
@@ -13,11 +13,11 @@ use std::alloc::{AllocError, Global};
 use std::test::Fail;
 use table_dicts::{AnswerTable, apart, pass_fail, project};
 
-// Answers, the class of each number, the chosen baselines, and how many pairs of classes they and the fault-free answers keep
-// apart.
+// Answers, the class of each number, the chosen baselines, and how many pairs of classes these baselines and the
+// fault-free answers keep apart.
 type Case = (GivenTable, &'static [u32], &'static str, [u64; 2]);
 
-// The chosen baselines, where members of one class have the same answers.
+// Returns the chosen baselines if members of one class have the same answers.
 fn chosen(alloc: Global, table: &AnswerTable, classes: &Classes) -> Result<AnswerRows, Fail>
     requires { length classes.now.class_of ≡ table.now.numbers }
     ensures { IfOk result (AreRows (length table.now.rows) table.now.positions) }
@@ -43,7 +43,7 @@ fn are_classes(classes: &Classes, numbers: u32, wanted: &[u32]) -> bool
     true
 }
 
-// How many pairs of classes these baselines keep apart.
+// Returns how many pairs of classes these baselines keep apart.
 fn apart_by(
     alloc: Global,
     table: &AnswerTable,
@@ -58,7 +58,7 @@ fn apart_by(
     apart(alloc, &dict, classes)
 }
 
-// How many the fault-free answers keep apart.
+// Returns how many pairs of classes the fault-free answers keep apart.
 fn apart_by_failing(
     alloc: Global,
     table: &AnswerTable,
@@ -71,7 +71,7 @@ fn apart_by_failing(
     apart(alloc, &dict, classes)
 }
 
-// Whether baselines and the fault-free answers keep so many pairs of classes apart.
+// Returns whether the baselines and the fault-free answers keep these numbers of pairs of classes apart.
 fn keep_apart(
     alloc: Global,
     table: &AnswerTable,
@@ -89,7 +89,7 @@ fn keep_apart(
     )
 }
 
-// Whether a table has these classes and chosen baselines, and so many pairs are kept apart.
+// Returns whether a table has the classes, the chosen baselines and the numbers of pairs of the case.
 fn agrees(alloc: Global, table: &AnswerTable, classes: &Classes, case: &Case) -> Result<bool, Fail>
     requires some { 0 < table.now.numbers }
     requires numbers { length classes.now.class_of ≡ table.now.numbers }
@@ -115,7 +115,8 @@ fn holds(alloc: Global, case: &Case) -> Result<bool, Fail> {
 
 const ALL_ALIKE: &str = "00 00 00 00";
 
-// As the case with one replacement, with patterns between to which all answer alike, so that the last two are behind the first 64.
+// As the case with one replacement, but with patterns in between to which all answer alike, so that the last two come
+// after the first 64.
 const FAR: &[&str] = &[
     "00 00 01 11",
     ALL_ALIKE,
@@ -210,8 +211,8 @@ const CASES: &[Case] = &[
         "0 0 0 1 ",
         [10, 10],
     ),
-    // An input shown at two positions, at the patterns 0 and 1: without a fault, and with the input, the first position and
-    // the second one at 0 and at 1.
+    // An input that is shown at two positions, at the patterns 0 and 1: without a fault, and with the input, the first
+    // position and the second one at 0 and at 1.
     (
         (7, 2, &["00 00 11 00 10 00 01", "11 00 11 01 11 10 11"]),
         &[0, 4, 1, 5, 2, 6, 3],

@@ -1,4 +1,4 @@
-//! Dictionaries of small circuits.
+//! Tests of the dictionaries of three small circuits, made with and without a table.
 
 ghost use Rattle.std.specs.Prelude.{◌≡◌, ◌<◌, ◌^◌, length, All, IfOk, OnOk};
 ghost use Rattle.net_model.specs.FaultList.{fault_count};
@@ -19,7 +19,7 @@ use table_dicts::{
     AnswerTable, Dict, Setting, answers_at, apart, full, full_at, pass_fail, pass_fail_at, project,
 };
 
-// Vectors of which each splits a class of those before it, and the classes of all of them.
+// Vectors that each split a class left by the vectors before, and the classes of all of them.
 #[derive(Drop)]
 pub(crate) struct Kept {
     pub(crate) patterns: Vectors,
@@ -61,7 +61,7 @@ fn keep_vector(circuit: &Circuit, keeper: &mut Keeper, v: &Vector) -> Result<(),
     Ok(())
 }
 
-// What is kept of these vectors.
+// Returns what is kept of these vectors.
 pub(crate) fn kept_of(alloc: Global, subject: &Subject, texts: &[&str]) -> Result<Kept, Fail>
     ensures widths { IfOk result (λ kept. All (λ v. length v ≡ subject.now.sources) kept.patterns) }
     ensures few { IfOk result (λ kept. length kept.patterns < 2 ^ 32) }
@@ -73,7 +73,7 @@ pub(crate) fn kept_of(alloc: Global, subject: &Subject, texts: &[&str]) -> Resul
     kept_by(alloc, keeper)
 }
 
-// What a keeper has kept.
+// Returns what a keeper has kept.
 fn kept_by(alloc: Global, keeper: Keeper) -> Result<Kept, Fail>
     ensures widths { IfOk result (λ kept. All (λ v. length v ≡ keeper.entry.circuit.sources) kept.patterns) }
     ensures few { IfOk result (λ kept. length kept.patterns < 2 ^ 32) }
@@ -85,7 +85,7 @@ fn kept_by(alloc: Global, keeper: Keeper) -> Result<Kept, Fail>
     Ok(Kept { patterns, classes })
 }
 
-// These vectors as a list, which isn't long.
+// Returns these vectors, which are few, as a list.
 fn listed(alloc: Global, vectors: Vec<Vector>) -> Result<Vectors, Fail>
     ensures list { IfOk result (λ list. list ≡ vectors.items) }
     ensures few { IfOk result (λ list. length list < 2 ^ 32) }
@@ -103,7 +103,7 @@ fn listed(alloc: Global, vectors: Vec<Vector>) -> Result<Vectors, Fail>
 // A dictionary, and how many pairs of classes it keeps apart.
 type Wanted = (&'static str, u64);
 
-// Whether a dictionary is this one, and keeps so many pairs apart.
+// Returns whether a dictionary is the wanted one and keeps the wanted number of pairs apart.
 fn is_told(alloc: Global, dict: &Dict, kept: &Kept, wanted: Wanted) -> Result<bool, Fail>
     requires grouped { IsGroupedDict dict.now }
     requires numbers { length kept.now.classes.class_of ≡ dict.now.numbers }
@@ -119,7 +119,8 @@ fn is_full(alloc: Global, table: &AnswerTable, kept: &Kept, wanted: Wanted) -> R
     is_told(alloc, &dict, kept, wanted)
 }
 
-// Whether the same/different dictionary at the fault-free answers, the baselines of the pass/fail one, tells as much.
+// Returns whether the same/different dictionary with the fault-free answers as baselines has the same groups as `dict`,
+// the pass/fail one, and keeps `pairs` pairs apart.
 fn tells_as_much(
     alloc: Global,
     table: &AnswerTable,
@@ -149,7 +150,7 @@ fn is_pass_fail(
     Ok(tells_as_much(alloc, table, kept, &dict, wanted.1)? && is_told(alloc, &dict, kept, wanted)?)
 }
 
-// A circuit with patterns that each split a class, its full dictionary, and its pass/fail dictionary.
+// A circuit, patterns that each split a class, the full dictionary, and the pass/fail dictionary.
 type Case = (
     CircuitParts<'static>,
     &'static [&'static str],
@@ -196,7 +197,7 @@ const CASES: &[Case] = &[
     ),
 ];
 
-// Whether both are made of a table of all answers.
+// Returns whether both are made from a table of all answers.
 fn are_tabled(alloc: Global, kept: &Kept, setting: &Setting, case: &Case) -> Result<bool, Fail>
     requires setting { IsSetting setting.now }
     requires numbers { length kept.now.classes.class_of ≡ fault_count setting.now.subject.now }
@@ -240,7 +241,7 @@ fn is_pass_fail_at(alloc: Global, setting: &Setting, wanted: &str) -> Result<boo
     is_dict(alloc, &dict, wanted)
 }
 
-// Whether both are made without a table, and of one.
+// Returns whether both are made without a table, and from one.
 fn are_made(alloc: Global, kept: &Kept, setting: &Setting, case: &Case) -> Result<bool, Fail>
     requires setting { IsSetting setting.now }
     requires numbers { length kept.now.classes.class_of ≡ fault_count setting.now.subject.now }
@@ -252,7 +253,7 @@ fn are_made(alloc: Global, kept: &Kept, setting: &Setting, case: &Case) -> Resul
     )
 }
 
-// Whether all is so for this circuit.
+// Returns whether both dictionaries of this circuit are those of the case.
 fn is_kept(alloc: Global, subject: &Subject, case: &Case) -> Result<bool, Fail> {
     let kept = kept_of(alloc, subject, case.1)?;
     let setting = Setting {

@@ -1,4 +1,4 @@
-//! Tables and classes of answers that are given as texts.
+//! Makes tables and classes of answers that are given as texts.
 
 ghost use Rattle.std.specs.Prelude.{◌≡◌, ◌<◌, length, IfOk};
 
@@ -9,10 +9,11 @@ use std::alloc::Global;
 use std::test::Fail;
 use table_dicts::AnswerTable;
 
-/// How many numbers and positions there are, and for each pattern the answer of each number, with blanks between.
+/// The number of fault numbers, the number of positions, and for each pattern the answer of each number, with blanks
+/// between them.
 pub(crate) type GivenTable = (u32, u32, &'static [&'static str]);
 
-/// The table of these answers.
+/// Returns the table of these answers.
 pub(crate) fn table_of(
     alloc: Global,
     numbers: u32,
@@ -61,7 +62,7 @@ fn set_answer(
     Ok(())
 }
 
-/// The classes that the answers to one pattern after another leave.
+/// Returns the classes that the answers to one pattern after another leave.
 pub(crate) fn classes_of(
     alloc: Global,
     answers: &[&str],
@@ -118,7 +119,7 @@ fn refine(classes: &mut Classes, numbers: u32, answers: &AnswerRows) -> Result<(
     Ok(())
 }
 
-// Rows of the digits of a text, with a blank between two rows.
+// Returns the rows of the digits of a text, which has a blank between two rows.
 fn rows_of(alloc: Global, count: usize, width: usize, text: &[u8]) -> Result<AnswerRows, Fail> {
     let mut rows = AnswerRows::zeros(alloc, count, width)?;
     enter_rows(&mut rows, text)?;

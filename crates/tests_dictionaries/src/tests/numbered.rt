@@ -1,4 +1,4 @@
-//! Numbers of the answers to blocks, on small circuits.
+//! Tests of the numbers of the answers to blocks of vectors, on small circuits.
 
 ghost use Rattle.std.specs.Prelude.{◌≡◌, ◌<◌, ◌≤◌, ◌^◌, ℕ, None, Some, length, All, IfOk, IsSome, OnOk};
 ghost use Rattle.net_model.specs.FaultList.{faults as faults_of, fault_count};
@@ -14,15 +14,16 @@ use std::fmt::Write;
 use std::test::Fail;
 use word_sim::{Block, LANES};
 
-// A block of vectors, and for each what is said of it: the number of each lead's answer, how many different ones there are,
-// which leads differ from the fault-free answer, and the answers.
+// A block of vectors, and for each vector the number of each lead's answer, the number of different answers, which
+// leads differ from the fault-free answer, and the answers.
 type Wanted = (&'static [&'static str], &'static str);
 
-// A circuit, the leads, and blocks one after another.
+// A circuit, the leads, and the blocks, one after another.
 type Case = (CircuitParts<'static>, &'static [u32], &'static [Wanted]);
 
 const CASES: &[Case] = &[
-    // Numbers 4 and 6 show the two positions apart, and differ from the others at the last one alone.
+    // At the first vector numbers 4 and 6 show different bits at the two positions, and each differs from an earlier
+    // answer only at the last position.
     (
         SHOWN_TWICE,
         &[0, 1, 2, 3, 4, 5, 6],
@@ -31,7 +32,7 @@ const CASES: &[Case] = &[
             "0010203 4 0010101 00 00 11 00 10 00 01;0102030 4 0101010 11 00 11 01 11 10 11;",
         )],
     ),
-    // The numbers go by the places of the leads, and not by the answers.
+    // The numbers follow the places of the leads, and not the answers.
     (
         SHOWN_TWICE,
         &[0, 6, 4, 2],
@@ -56,7 +57,7 @@ const CASES: &[Case] = &[
     ),
 ];
 
-// Puts vectors into an empty block.
+// Returns a block with these vectors.
 fn block_of(alloc: Global, sources: u32, texts: &[&str]) -> Result<Block, Fail>
     ensures { IfOk result (λ block. block.sources ≡ sources) }
 {
@@ -78,7 +79,7 @@ fn put(block: &mut Block, v: &Vector) -> Result<(), Fail>
     Ok(())
 }
 
-// Writes what is said of the vector of a lane.
+// Writes what a case says of the vector of a lane.
 fn spell_lane(
     alloc: Global,
     numbers: &AnswerNumbers,
@@ -135,7 +136,7 @@ fn spell_answers(
     Ok(())
 }
 
-// Whether this is said of the vectors of a block.
+// Returns whether the wanted text is what is written of the vectors of a block.
 fn is_said(
     alloc: Global,
     numbers: &AnswerNumbers,

@@ -1,4 +1,4 @@
-//! Plans of small circuits, without a table of answers and from one.
+//! Tests of the plans of small circuits, made without a table of answers and from one.
 
 ghost use Rattle.table_dicts.specs.Setting.{IsSetting};
 
@@ -40,7 +40,7 @@ const CASES: &[Case] = &[
     (NOTHING, &[], "adapt 1 0 0 1\nclass 0\nend\n"),
 ];
 
-// Whether the plan of the setting is this one.
+// Returns whether the plan of the setting is the wanted one.
 fn is_planned(alloc: Global, setting: &Setting, wanted: &str) -> Result<bool, Fail>
     requires { IsSetting setting.now }
 {
@@ -49,7 +49,7 @@ fn is_planned(alloc: Global, setting: &Setting, wanted: &str) -> Result<bool, Fa
     Ok(text.as_slice() == wanted.as_bytes())
 }
 
-// Whether that of a table of the answers is.
+// Returns whether the plan from a table of the setting's answers is the wanted one.
 fn is_planned_by_table(alloc: Global, setting: &Setting, wanted: &str) -> Result<bool, Fail>
     requires { IsSetting setting.now }
 {

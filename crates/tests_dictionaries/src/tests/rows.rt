@@ -1,4 +1,4 @@
-//! Equal rows in groups, and the first that comes again.
+//! Tests of groups of equal rows, and of the first row that comes again.
 
 ghost use Rattle.std.specs.Prelude.{◌<◌, ◌^◌, length};
 
@@ -8,7 +8,7 @@ use std::alloc::{AllocError, Global};
 use std::test::Fail;
 use table_dicts::{first_repeat, group_rows};
 
-// Whether rows have these groups, and so many first rows.
+// Returns whether rows have these groups and `firsts` first rows.
 fn have_groups(
     alloc: Global,
     rows: &AnswerRows,
@@ -21,7 +21,7 @@ fn have_groups(
     Ok(grouped.groups.as_slice() == groups && grouped.entries.rows() == firsts)
 }
 
-// Whether rows have these groups, so many first rows, and this first row that comes again.
+// Returns whether rows have these groups, `firsts` first rows, and this first row that comes again.
 fn are_grouped(
     alloc: Global,
     rows: &AnswerRows,
@@ -74,7 +74,7 @@ fn groups_of_rows(rt: HostRuntime) -> Result<(), Fail> {
     Ok(())
 }
 
-// Rows of 130 bits, three words, that differ in their second or third word alone.
+// Rows of 130 bits, three words, that differ only in their second or third word.
 #[test]
 fn groups_of_long_rows(rt: HostRuntime) -> Result<(), Fail> {
     let ones = [(0, 64), (1, 129), (2, 64), (3, 127), (4, 129)];
@@ -84,7 +84,7 @@ fn groups_of_long_rows(rt: HostRuntime) -> Result<(), Fail> {
     Ok(())
 }
 
-// The entries of rows, each with a blank behind it.
+// Returns the entries of rows, each with a blank after it.
 fn entries_text(alloc: Global, rows: &AnswerRows) -> Result<String, Fail> {
     if rows.rows() > 1000 {
         return Err(Fail::new("there are too many rows"));

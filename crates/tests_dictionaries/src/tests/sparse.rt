@@ -1,6 +1,6 @@
-//! Lists of numbers of which most are 0, read back.
+//! Tests of lists of numbers that are mostly 0, which are read back.
 
-use sparse_numbers::SparseNumbers;
+use samediff_dict::SparseNumbers;
 use std::alloc::Global;
 use std::test::Fail;
 
@@ -41,7 +41,7 @@ fn number_at(others: &[(usize, u32)], place: usize) -> u32 {
     0
 }
 
-// So many numbers, in a list that has room for as many.
+// Returns a list of `count` numbers, begun with room for `room`.
 fn sparse_of(
     alloc: Global,
     room: usize,
@@ -58,7 +58,7 @@ fn sparse_of(
     Ok(numbers)
 }
 
-// Whether these numbers stand at their places.
+// Returns whether these numbers are at their places.
 fn has_others(numbers: &SparseNumbers, others: &[(usize, u32)]) -> bool {
     for (at, number) in others {
         if *at >= numbers.len() || numbers.get(*at) != *number {
@@ -68,7 +68,7 @@ fn has_others(numbers: &SparseNumbers, others: &[(usize, u32)]) -> bool {
     true
 }
 
-// Whether there are so many numbers, and 0 at each other place.
+// Returns whether there are `count` numbers, these at their places and 0 at each other place.
 fn is_read_back(numbers: &SparseNumbers, count: usize, others: &[(usize, u32)]) -> bool {
     if numbers.len() != count {
         return false;

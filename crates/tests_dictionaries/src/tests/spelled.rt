@@ -1,4 +1,4 @@
-//! Rows and dictionaries, spelled.
+//! Rows and dictionaries as texts, and rows from texts.
 
 ghost use Rattle.std.specs.Prelude.{◌<◌, length, IsTrue};
 ghost use Rattle.dict_rows.specs.Rows.{AreRows};
@@ -8,8 +8,8 @@ use std::alloc::{AllocError, Global};
 use std::test::Fail;
 use table_dicts::Dict;
 
-// Adds the kind of a dictionary, how many positions, patterns and numbers it has, its baselines, and the group and the entry of
-// each number.
+// Adds the kind of a dictionary, how many positions, patterns and numbers it has, its baselines, and the group and the
+// entry of each number.
 fn push_dict(text: &mut String, dict: &Dict) -> Result<(), Fail> {
     write!(
         text,
@@ -23,14 +23,14 @@ fn push_dict(text: &mut String, dict: &Dict) -> Result<(), Fail> {
     push_entries(text, dict)
 }
 
-/// Whether a dictionary is this one.
+/// Returns whether a dictionary is the wanted one.
 pub(crate) fn is_dict(alloc: Global, dict: &Dict, wanted: &str) -> Result<bool, Fail> {
     let mut text = String::new(alloc);
     push_dict(&mut text, dict)?;
     Ok(text.as_str() == wanted)
 }
 
-// Adds the numbers, each with a blank behind it.
+// Adds the numbers, each with a blank after it.
 fn push_numbers(text: &mut String, numbers: &[u32]) -> Result<(), AllocError> {
     for number in numbers {
         write!(text, "{number} ")?;
@@ -38,7 +38,7 @@ fn push_numbers(text: &mut String, numbers: &[u32]) -> Result<(), AllocError> {
     Ok(())
 }
 
-/// Whether these are the rows, each with a blank behind it.
+/// Returns whether the rows are the wanted ones, each with a blank after it.
 pub(crate) fn are_spelled(
     alloc: Global,
     rows: &AnswerRows,
@@ -49,7 +49,7 @@ pub(crate) fn are_spelled(
     Ok(text.as_str() == wanted)
 }
 
-/// Adds the rows, each with a blank behind it.
+/// Adds the rows, each with a blank after it.
 pub(crate) fn push_rows(text: &mut String, rows: &AnswerRows) -> Result<(), AllocError> {
     for row in 0..rows.rows() {
         push_row(text, rows, row)?;
@@ -57,7 +57,7 @@ pub(crate) fn push_rows(text: &mut String, rows: &AnswerRows) -> Result<(), Allo
     Ok(())
 }
 
-// Adds the entry of each number, with a blank behind it.
+// Adds the entry of each number, with a blank after it.
 fn push_entries(text: &mut String, dict: &Dict) -> Result<(), Fail> {
     for group in dict.groups.as_slice() {
         let row = *group as usize;
@@ -78,7 +78,7 @@ fn push_row(text: &mut String, rows: &AnswerRows, row: usize) -> Result<(), Allo
     text.push_str(" ")
 }
 
-/// Rows of this width that are 1 at these rows and places, and else 0.
+/// Returns rows of this width that are 1 at these rows and places, and 0 elsewhere.
 pub(crate) fn rows_with(
     alloc: Global,
     count: usize,
@@ -97,7 +97,7 @@ fn set_bits(rows: &mut AnswerRows, ones: &[(usize, usize)]) -> Result<(), Fail> 
     Ok(())
 }
 
-/// Rows of the digits of these texts.
+/// Returns a row of the digits of each text.
 pub(crate) fn rows_of(alloc: Global, width: usize, texts: &[&str]) -> Result<AnswerRows, Fail> {
     let mut rows = AnswerRows::zeros(alloc, texts.len(), width)?;
     enter_rows(&mut rows, texts)?;
@@ -127,7 +127,7 @@ fn set_bit(rows: &mut AnswerRows, row: usize, at: usize, bit: bool) -> Result<()
     Ok(())
 }
 
-/// Whether there are so many rows, each of this width.
+/// Returns whether there are `count` rows, each of this width.
 pub(crate) fn fit(rows: &AnswerRows, count: u32, width: u32) -> bool
     ensures { IsTrue result → AreRows count width rows.now }
 {

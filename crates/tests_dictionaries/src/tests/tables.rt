@@ -1,4 +1,5 @@
-//! Dictionaries of tables that were made by hand.
+//! Tests of the dictionaries of tables that were made by hand: long ones, ones without patterns or positions, and
+//! chosen baselines.
 
 ghost use Rattle.std.specs.Prelude.{◌<◌, IfOk, OnOk};
 ghost use Rattle.dict_rows.specs.Dictionary.{IsGroupedDict};
@@ -63,7 +64,8 @@ const FOUR: Made = Made {
     ],
 };
 
-// Three numbers that answer alike up to pattern 63: number 1 answers otherwise to pattern 64, and number 2 to pattern 69.
+// Three numbers that answer alike up to pattern 63. Number 1 answers otherwise to pattern 64, and number 2 to pattern
+// 69.
 const LONG: Made = Made {
     patterns: 70,
     numbers: 3,
@@ -167,7 +169,7 @@ fn pass_fail_tells_three(alloc: Global, table: &AnswerTable) -> Result<bool, All
     Ok(tells_three(&dict))
 }
 
-// Whether both dictionaries keep three numbers apart.
+// Returns whether both dictionaries keep three numbers apart.
 fn tell_three(alloc: Global, table: &AnswerTable) -> Result<bool, AllocError>
     requires { 0 < table.now.numbers }
 {
@@ -191,7 +193,7 @@ fn projected(alloc: Global, table: &AnswerTable, rows: &AnswerRows) -> Result<Di
     Ok(project(alloc, table, rows)?)
 }
 
-// The dictionary of the four numbers at these baselines.
+// Returns the same/different dictionary of the four numbers with these baselines.
 fn four_projected(alloc: Global, rows: &AnswerRows) -> Result<Dict, Fail>
     ensures { IfOk result IsGroupedDict }
 {
@@ -199,11 +201,11 @@ fn four_projected(alloc: Global, rows: &AnswerRows) -> Result<Dict, Fail>
     projected(alloc, &table, rows)
 }
 
-// Whether so many of the six pairs of the four numbers are apart.
+// Returns whether `pairs` of the six pairs of the four numbers are kept apart.
 fn parts(alloc: Global, dict: &Dict, pairs: u64) -> Result<bool, Fail>
     requires { IsGroupedDict dict.now }
 {
-    // Number 2 is parted from number 1 at pattern 1.
+    // Pattern 1 separates number 2 from number 1.
     let classes = classes_of(alloc, &["00 01 01 10", "00 01 10 01"], 4, 2)?;
     if dict.numbers != 4 {
         return Err(Fail::new("there aren't four numbers"));
@@ -211,7 +213,7 @@ fn parts(alloc: Global, dict: &Dict, pairs: u64) -> Result<bool, Fail>
     Ok(apart(alloc, dict, &classes)? == pairs)
 }
 
-// Whether a dictionary of the four numbers is this one, and so many pairs are apart.
+// Returns whether a dictionary of the four numbers is the wanted one, and `pairs` pairs are kept apart.
 fn is_told(alloc: Global, dict: &Dict, wanted: &str, pairs: u64) -> Result<bool, Fail>
     requires { IsGroupedDict dict.now }
 {
@@ -223,7 +225,7 @@ fn is_four_at(alloc: Global, rows: &AnswerRows, wanted: &str, pairs: u64) -> Res
     is_told(alloc, &dict, wanted, pairs)
 }
 
-// Whether the four numbers have this dictionary at these baselines, and so many pairs are apart.
+// Returns whether the four numbers have the wanted dictionary with these baselines, and `pairs` pairs are kept apart.
 fn is_four(alloc: Global, baselines: &[&str], wanted: &str, pairs: u64) -> Result<bool, Fail> {
     let rows = rows_of(alloc, 2, baselines)?;
     is_four_at(alloc, &rows, wanted, pairs)

@@ -17,21 +17,22 @@ use sample_circuits::{CircuitParts, NOT_AND_OR, circuit, stands};
 use std::alloc::{AllocError, Global};
 use std::test::Fail;
 
-/// A literal of one of the first hundred variables.
+/// Returns a literal of one of the first hundred variables.
 pub(crate) fn lit(number: i32) -> Lit {
     Lit::new(number.unsigned_abs().clamp(1, 100), number > 0)
 }
 
-/// A chain: the literal of a fresh clause, the number of the first clause, and the literals and clauses of the steps.
+/// A chain: the literal at which its clause is fresh, if it has one, the number of the first clause, and the literals
+/// and clauses of the steps.
 pub(crate) type Linked = (Option<i32>, u32, &'static [(i32, u32)]);
 
-// How many clauses may be learned, the chains of a log, and the refusal, or none. Where the first chain has a literal the log
-// is one that spends its budget, and else a refutation.
+// How many clauses may be learned, the chains of a log, and the refusal, or none. If the first chain has a literal, the
+// log is one that spends its budget, else a refutation.
 type Judged = (u16, &'static [Linked], Option<(RefusalKind, u64)>);
 
 const REFUTATION: &[(i32, u32)] = &[(1, 3), (2, 4), (3, 8), (-5, 11), (-4, 6)];
 
-// From clause 8, that line 3 is 0.
+// The steps from clause 8 to the clause that variable 3 is 0.
 const FALSE_LINE: &[(i32, u32)] = &[(-5, 11), (-4, 6)];
 
 // An OR of a line and its negation, with its output stuck at 1.
@@ -54,7 +55,7 @@ const OF_OPPOSITES: &[Judged] = &[
     (2, &[(Some(-3), 8, FALSE_LINE)], Some((WrongCount, 1))),
 ];
 
-// Line 2 is the NOT of b, lines 3 and 4 the ORs of a with b and with that, and line 5 their AND.
+// Line 2 is the NOT of b, lines 3 and 4 are the ORs of a with b and with line 2, and line 5 is their AND.
 const AND_OF_ORS: CircuitParts<'static> = CircuitParts {
     sources: 2,
     gates: &[
@@ -66,7 +67,7 @@ const AND_OF_ORS: CircuitParts<'static> = CircuitParts {
     positions: &[5],
 };
 
-// Where line 5 isn't 0 both ORs are 1. Then a is 1, which unit propagation doesn't see; that line 3 is 1 it sees.
+// If line 5 isn't 0, both ORs are 1. Then a is 1, which unit propagation doesn't see; it sees that line 3 is 1.
 const OF_ORS: &[Judged] = &[
     (1, &[(Some(1), 5, &[(2, 2), (-3, 8)])], None),
     (1, &[(Some(-4), 5, &[(2, 2), (-3, 8)])], Some((NotFresh, 0))),
@@ -80,7 +81,7 @@ fn push_steps(chain: &mut Chain, steps: &[(i32, u32)]) -> Result<(), AllocError>
     Ok(())
 }
 
-/// The log of these chains.
+/// Returns the log of these chains.
 pub(crate) fn log_of(alloc: Global, chains: &[Linked]) -> Result<Log, AllocError> {
     let mut log = Log::new(alloc);
     for (literal, first, steps) in chains {
@@ -100,7 +101,8 @@ fn kind_of(chains: &[Linked]) -> EvidenceKind
     }
 }
 
-// What the checker says of a log, over the clauses of a circuit without a fault and with this one, in an empty pool.
+// Returns what the checker says of a log over the miter of a circuit without a fault and with `stuck`, whose clauses
+// are built into an empty pool.
 fn checked_in(
     alloc: Global,
     circuit: &Circuit,
@@ -121,7 +123,7 @@ fn checked_in(
     Ok(check_log(alloc, &miter, pool, log, kind, conflicts))
 }
 
-/// The same in a new pool.
+/// As `checked_in`, in a new pool.
 pub(crate) fn checked(
     alloc: Global,
     circuit: &Circuit,
@@ -138,7 +140,7 @@ pub(crate) fn checked(
     checked_in(alloc, circuit, stuck, &mut pool, log, kind, conflicts)
 }
 
-// Whether the checker says of a log, over a circuit, what is wanted.
+// Returns whether the checker says of a log over a circuit what is wanted.
 fn is_judged_in(
     alloc: Global,
     circuit: &Circuit,
@@ -155,7 +157,7 @@ fn is_judged_in(
     Ok(is_refusal(found, wanted))
 }
 
-// The same over the circuit of these parts.
+// As `is_judged_in`, over the circuit of these parts.
 fn is_judged(
     alloc: Global,
     parts: CircuitParts,
@@ -166,7 +168,7 @@ fn is_judged(
     is_judged_in(alloc, &circuit, stuck, case)
 }
 
-/// Whether the answer is this refusal, or none.
+/// Returns whether `found` is the wanted refusal, or accepts if none is wanted.
 pub(crate) fn is_refusal(
     found: Result<(), CheckFault>,
     wanted: Option<(RefusalKind, u64)>,
@@ -192,14 +194,14 @@ fn logs_are_checked(rt: HostRuntime) -> Result<(), Fail> {
     Ok(())
 }
 
-// The end of a chain by which the first clause of a pool is resolved with the second at 2.
+// Returns the end of a chain that resolves the first clause of a pool with the second on 2.
 fn resolved(alloc: Global, pool: &Pool) -> Result<Clause, Fail> {
     let mut chain = Chain::new(alloc, 1, None);
     chain.push(lit(2), 2)?;
     Ok(run_chain(alloc, pool, &chain)?)
 }
 
-// Whether the clauses 1 2 and 1 -2 are resolved to 1, in an empty pool.
+// Returns whether the clauses 1 2 and 1 -2, in an empty pool, are resolved to 1.
 fn resolves(alloc: Global, pool: &mut Pool) -> Result<bool, Fail> {
     pool.push(&[lit(1), lit(2)])?;
     pool.push(&[lit(1), lit(-2)])?;
@@ -207,13 +209,13 @@ fn resolves(alloc: Global, pool: &mut Pool) -> Result<bool, Fail> {
     Ok(end.as_slice() == [lit(1)].as_slice())
 }
 
-// The same in a new pool.
+// As `resolves`, in a new pool.
 fn resolves_alone(alloc: Global) -> Result<bool, Fail> {
     let mut pool = Pool::with_room(alloc, 2, 4)?;
     resolves(alloc, &mut pool)
 }
 
-// Whether the literals 3, -1 and 3 are put in order, each once, into a set with room for three.
+// Returns whether the literals 3, -1 and 3 are put in order, each once, into a set with room for three.
 fn loads(clause: &mut Clause) -> bool
     requires { clause.old.room ≡ 3 }
 {

@@ -42,8 +42,8 @@ const OPPOSITES: Case = Case {
     difference: "-5 3 4 0 -5 -3 -4 0 5 -3 4 0 5 3 -4 0 5 0 ",
 };
 
-// A source that nothing shows; a line at two pins; a multiplexer; and constants in both copies, 1 stuck at 0 against 0 stuck
-// at 1.
+// A source that no position shows; a line at two pins; a multiplexer; and constants in both copies, 1 stuck at 0
+// against 0 stuck at 1.
 const OTHERS: &[Case] = &[
     Case {
         parts: CircuitParts {
@@ -91,7 +91,7 @@ const OTHERS: &[Case] = &[
     },
 ];
 
-// The literals of a clause as signed numbers, with a 0 after them.
+// Appends the literals of a clause as signed numbers, with a 0 after them.
 fn push_clause(text: &mut String, clause: &[Lit]) -> Result<(), AllocError> {
     for lit in clause {
         text.push_str(if lit.positive() { "" } else { "-" })?;
@@ -107,14 +107,15 @@ fn push_clauses(text: &mut String, pool: &Pool) -> Result<(), AllocError> {
     Ok(())
 }
 
-// Two counts, and the clauses of a pool.
+// Returns two counts and the clauses of a pool as text.
 fn counted_text(alloc: Global, variables: u32, count: u32, pool: &Pool) -> Result<String, Fail> {
     let mut text = format!(in alloc; "{variables} {count}: ")?;
     push_clauses(&mut text, pool)?;
     Ok(text)
 }
 
-// How many variables and clauses the miter of a circuit has, and the clauses, which are built into an empty pool.
+// Returns as text how many variables and clauses the miter of a circuit has, and the clauses, which are built into an
+// empty pool.
 fn miter_text(
     alloc: Global,
     circuit: &Circuit,
@@ -130,7 +131,7 @@ fn miter_text(
     counted_text(alloc, miter.variables(), miter.clause_count(), pool)
 }
 
-// The same for the circuit of the case.
+// As `miter_text`, for the circuit of the case.
 fn case_text(alloc: Global, case: &Case, pool: &mut Pool) -> Result<String, Fail>
     requires { pool.old.clauses ≡ [] }
 {
@@ -138,7 +139,7 @@ fn case_text(alloc: Global, case: &Case, pool: &mut Pool) -> Result<String, Fail
     miter_text(alloc, &circuit, case, pool)
 }
 
-// Whether the miter of a case is built so into an empty pool.
+// Returns whether the miter of a case is built into an empty pool as it is wanted.
 fn is_built(alloc: Global, case: &Case, pool: &mut Pool) -> Result<bool, Fail>
     requires { pool.old.clauses ≡ [] }
 {
@@ -147,7 +148,7 @@ fn is_built(alloc: Global, case: &Case, pool: &mut Pool) -> Result<bool, Fail>
     Ok(text.as_str() == wanted.as_str())
 }
 
-// Whether it is built so into a pool of just the room, which stays as it is.
+// Returns whether it is built into a pool with exactly the room that it needs, which doesn't grow.
 fn fits(alloc: Global, case: &Case, pool: &mut Pool) -> Result<bool, Fail>
     requires { pool.old.clauses ≡ [] }
 {
@@ -161,7 +162,7 @@ fn a_miter_in_its_room(rt: HostRuntime) -> Result<(), Fail> {
     Ok(())
 }
 
-// Whether it is built so into a pool without room, which grows.
+// Returns whether it is built into a pool without room, which grows.
 fn grows(alloc: Global, case: &Case) -> Result<bool, Fail> {
     let mut pool = Pool::with_room(alloc, 0, 0)?;
     is_built(alloc, case, &mut pool)
@@ -175,7 +176,7 @@ fn clauses_of_miters(rt: HostRuntime) -> Result<(), Fail> {
     Ok(())
 }
 
-// The space of the miter of a case's faults.
+// Returns the space of the miter of a case's faults.
 fn used_space<'a>(alloc: Global, circuit: &'a Circuit, case: &Case) -> Result<MiterSpace<'a>, Fail>
     ensures { IfOk result (λ space. space ≡ circuit.now) }
 {
@@ -187,7 +188,7 @@ fn used_space<'a>(alloc: Global, circuit: &'a Circuit, case: &Case) -> Result<Mi
     Ok(miter.into_space())
 }
 
-// The same as `miter_text`, in the space of another case's miter.
+// As `miter_text`, in the space of another case's miter.
 fn next_text(
     alloc: Global,
     circuit: &Circuit,
@@ -205,7 +206,8 @@ fn next_text(
     counted_text(alloc, miter.variables(), miter.clause_count(), pool)
 }
 
-// Whether the miter of a case in the space of another's, of the same circuit, is the one that is built by itself.
+// Returns whether the miter of a case, built in the space of another case's miter of the same circuit, is the one that
+// is built by itself.
 fn is_same_in_used_space(alloc: Global, before: &Case, case: &Case) -> Result<bool, Fail> {
     let circuit = circuit(alloc, case.parts)?;
     let mut own = Pool::with_room(alloc, 0, 0)?;
@@ -215,7 +217,7 @@ fn is_same_in_used_space(alloc: Global, before: &Case, case: &Case) -> Result<bo
     Ok(text.as_str() == wanted.as_str())
 }
 
-// The other faults of the same circuit: all lines are split, one after the other.
+// Other faults of the same circuit: all lines are split, one after the other.
 const ALL_SPLIT: Case = Case {
     f: Stuck(Stem(0), false),
     g: Stuck(Stem(0), true),
@@ -229,7 +231,7 @@ fn a_second_miter_in_one_space(rt: HostRuntime) -> Result<(), Fail> {
     Ok(())
 }
 
-// The source and the line are 1 without the fault, and the line is 0 with it.
+// Returns a model in which the source and the line are 1 without the fault, and the line is 0 with it.
 fn model(alloc: Global) -> Result<Bits, AllocError>
     ensures { IfOk result (λ model. model ≡ true ∷ true ∷ false ∷ true ∷ []) }
 {
@@ -248,7 +250,7 @@ fn miter_of_one<'a>(alloc: Global, circuit: &'a Circuit) -> Result<Miter<'a>, Al
     build(alloc, circuit, &Free, &Stuck(Stem(1), false), &mut pool)
 }
 
-// The same miter, in the space of one of other faults.
+// As `miter_of_one`, in the space of a miter of other faults.
 fn next_miter_of_one<'a>(alloc: Global, circuit: &'a Circuit) -> Result<Miter<'a>, AllocError>
     requires { circuit.now ≡ circuit_with 1 (record { kind = Kind.And; pins = 0 ∷ 0 ∷ [] } ∷ []) (1 ∷ []) }
     ensures { IfOk result (λ built. built ≡ miter_with circuit.now Fault.Free (Fault.Stuck (Site.Stem 1) false)) }
@@ -261,7 +263,6 @@ fn next_miter_of_one<'a>(alloc: Global, circuit: &'a Circuit) -> Result<Miter<'a
     space.build(&Free, &Stuck(Stem(1), false), &mut pool)
 }
 
-// The vector of the model of a miter.
 fn vector_of_model(alloc: Global, miter: &Miter) -> Result<Vector, AllocError>
     requires { miter.now ≡ miter_with (circuit_with 1 (record { kind = Kind.And; pins = 0 ∷ 0 ∷ [] } ∷ []) (1 ∷ [])) Fault.Free (Fault.Stuck (Site.Stem 1) false) }
 {
@@ -307,13 +308,13 @@ fn chain_of_two_steps(alloc: Global) -> Result<Chain, AllocError> {
     Ok(chain)
 }
 
-// Whether a chain is that of two steps.
+// Returns whether a chain is that of two steps.
 fn has_two_steps(chain: &Chain) -> bool {
     let steps = [(Lit::new(5, false), 11), (Lit::new(4, false), 6)];
     chain.steps() == steps.as_slice() && chain.start() == 8 && chain.at() == Some(Lit::new(2, true))
 }
 
-// Whether an empty log takes that chain.
+// Returns whether an empty log takes that chain.
 fn takes_chain(alloc: Global, log: &mut Log) -> Result<bool, Fail> {
     log.push(chain_of_two_steps(alloc)?)?;
     let chains = log.as_slice();

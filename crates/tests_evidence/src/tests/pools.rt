@@ -1,11 +1,11 @@
-//! A small pool of clauses, with answers worked out by hand.
+//! A small pool of clauses, with results worked out by hand.
 
 ghost use Rattle.std.specs.Prelude.{◌≡◌, []};
 
 use clause_pool::{Full, Lit, Pool};
 use std::test::Fail;
 
-// Whether a pool takes two clauses of three literals, one after another, and has no room for more.
+// Returns whether a pool takes two clauses of three literals, one after another, and has no room for more.
 fn takes_two(pool: &mut Pool) -> bool {
     let pair = [Lit::new(1, true), Lit::new(2, false)];
     let last = [Lit::new(3, true)];
@@ -16,17 +16,17 @@ fn takes_two(pool: &mut Pool) -> bool {
         && has_two(pool, &pair, &last)
 }
 
-// Whether a pool has these two clauses.
+// Returns whether a pool has these two clauses.
 fn has_two(pool: &Pool, first: &[Lit], second: &[Lit]) -> bool {
     pool.len() == 2 && pool.get(1) == first && pool.get(2) == second
 }
 
-// How many clauses there are, and for how many more clauses and literals there is room.
+// Returns how many clauses there are, and for how many more clauses and literals there is room.
 fn room(pool: &Pool) -> (u32, usize, usize) {
     (pool.len(), pool.spare_clauses(), pool.spare_literals())
 }
 
-// Whether they are given up again, and the pool grows to three clauses.
+// Returns whether the two clauses are dropped again, and the pool grows to three clauses.
 fn is_emptied(pool: &mut Pool) -> Result<bool, Fail>
     requires { pool.old.clauses ≡ [] }
 {
@@ -45,7 +45,7 @@ fn room_for_two_clauses_and_three_literals(rt: HostRuntime) -> Result<(), Fail> 
     Ok(())
 }
 
-// Whether a pool without room grows for two clauses, and by no more than they need.
+// Returns whether a pool without room grows for two clauses, and by no more than they need.
 fn grows_for_two(pool: &mut Pool) -> Result<bool, Fail>
     requires { pool.old.clauses ≡ [] }
 {

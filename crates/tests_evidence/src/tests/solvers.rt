@@ -1,4 +1,5 @@
-//! What the solver answers for a circuit without a fault and with one: vectors, and logs of both kinds, which the checker accepts.
+//! What the solver returns for a circuit without a fault and with one: vectors, and logs of both kinds, which the
+//! checker accepts.
 
 ghost use Rattle.std.specs.Prelude.{◌≡◌, ◌≢◌, ◌<◌, ◌≤◌, ◌^◌, []};
 ghost use Rattle.net_model.specs.Fault.{IsFaultOf};
@@ -24,7 +25,7 @@ enum Ending {
     Rejected,
 }
 
-// What the solver answers within so many conflicts, with the clauses in an empty pool.
+// Returns what the solver returns within `most` conflicts, with the clauses in an empty pool.
 fn solved_in(
     alloc: Global,
     circuit: &Circuit,
@@ -43,7 +44,7 @@ fn solved_in(
     solve(alloc, &miter, pool, most)
 }
 
-// The same in a new pool.
+// As `solved_in`, in a new pool.
 fn solved(alloc: Global, circuit: &Circuit, stuck: Fault, most: u32) -> Result<Solved, AllocError>
     requires few { most < 2 ^ 16 }
     requires some { 1 ≤ most }
@@ -53,7 +54,7 @@ fn solved(alloc: Global, circuit: &Circuit, stuck: Fault, most: u32) -> Result<S
     solved_in(alloc, circuit, stuck, &mut pool, most)
 }
 
-// The answer of a log of this kind, where the checker accepts it over the clauses built anew.
+// Returns the ending of a log of kind `kind` if the checker accepts it over the clauses built anew, else `Rejected`.
 fn judged(
     alloc: Global,
     circuit: &Circuit,
@@ -74,7 +75,7 @@ fn judged(
     })
 }
 
-// The answer of the solver.
+// Returns how the solver ends.
 fn answer_of(
     alloc: Global,
     circuit: &Circuit,
@@ -105,7 +106,7 @@ const PARITIES: CircuitParts<'static> = CircuitParts {
     positions: &[8],
 };
 
-// The source, which nothing shows.
+// A source that no position shows.
 const LONE_SOURCE: CircuitParts<'static> = CircuitParts {
     sources: 1,
     gates: &[],
@@ -119,7 +120,8 @@ const AND_OF_ONE: CircuitParts<'static> = CircuitParts {
     positions: &[1],
 };
 
-// An output that is always 1, a source that nothing shows, a pin beside its own source, and two parities that differ.
+// An output that is always 1, a source that no position shows, a pin beside its own source, and two parities that
+// differ.
 const ANSWERS: &[(CircuitParts<'static>, Fault, u16, Ending)] = &[
     (NOT_AND_OR, Stuck(Stem(2), true), 64, Ending::Refuted),
     (NOT_AND_OR, Stuck(Stem(2), true), 1, Ending::Refuted),
@@ -133,7 +135,7 @@ const ANSWERS: &[(CircuitParts<'static>, Fault, u16, Ending)] = &[
     (PARITIES, Stuck(Stem(8), false), 1000, Ending::Vector),
 ];
 
-// The answer for a circuit, where the fault stands in it.
+// Returns how the solver ends for a circuit that has the fault.
 fn answer_in(
     alloc: Global,
     circuit: &Circuit,
@@ -146,7 +148,7 @@ fn answer_in(
     Ok(answer_of(alloc, circuit, stuck, conflicts as u32)?)
 }
 
-// The same for the circuit of these parts.
+// As `answer_in`, for the circuit of these parts.
 fn answer_for(
     alloc: Global,
     parts: CircuitParts,

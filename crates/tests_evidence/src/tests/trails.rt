@@ -22,7 +22,7 @@ fn add(trail: &mut Trail, pool: &mut Pool, clause: &[Lit]) -> Result<(), Fail>
     Ok(())
 }
 
-// Decides a literal and propagates, where its variable is unset.
+// Decides `lit` and propagates if its variable is unset; else returns none.
 fn decide(trail: &mut Trail, pool: &Pool, lit: Lit) -> Option<Propagated>
     requires fits { Fits trail.old pool.now.clauses }
     requires inside { lit.variable ≤ trail.old.assignment.variables }
@@ -38,7 +38,6 @@ fn decide(trail: &mut Trail, pool: &Pool, lit: Lit) -> Option<Propagated>
     }
 }
 
-// Attaches all clauses of a pool.
 fn attach_all(trail: &mut Trail, pool: &Pool) -> Result<(), Fail>
     requires fits { Fits trail.old pool.now.clauses }
     requires proper { All (IsProper trail.old.assignment.variables) pool.now.clauses }
@@ -51,7 +50,8 @@ fn attach_all(trail: &mut Trail, pool: &Pool) -> Result<(), Fail>
     Ok(())
 }
 
-// Whether units and a reason are propagated, then a decision meets a conflict, and behind it the units are left.
+// Returns whether units and a reason are propagated, then a decision meets a conflict, and after it is undone the units
+// are left.
 fn propagates(trail: &mut Trail, pool: &Pool) -> bool
     requires fits { Fits trail.old pool.now.clauses }
     requires variables { trail.old.assignment.variables ≡ 4 }
@@ -74,7 +74,7 @@ fn propagates(trail: &mut Trail, pool: &Pool) -> bool
     trail.set_literals() == units.as_slice()
 }
 
-// Whether the clauses 1, -1 2, -2 -3 4 and -3 -4 propagate so.
+// Returns whether the clauses 1, -1 2, -2 -3 4 and -3 -4 propagate like this.
 fn four_propagate(trail: &mut Trail, pool: &mut Pool) -> Result<bool, Fail>
     requires fits { Fits trail.old pool.old.clauses }
     requires variables { trail.old.assignment.variables ≡ 4 }
@@ -88,7 +88,7 @@ fn four_propagate(trail: &mut Trail, pool: &mut Pool) -> Result<bool, Fail>
     Ok(propagates(trail, pool))
 }
 
-// Whether they do in a new pool.
+// As `four_propagate`, in a new pool.
 fn propagate_alone(alloc: Global) -> Result<bool, Fail> {
     let mut pool = Pool::with_room(alloc, 4, 8)?;
     let mut trail = Trail::new(alloc, 4)?;
@@ -103,7 +103,7 @@ fn units_and_reasons(rt: HostRuntime) -> Result<(), Fail> {
 
 const VARIABLES: u32 = 500_000;
 
-// Pushes the clauses by which every second literal from one on sets the next.
+// Pushes the clauses by which every second literal, starting at `from`, sets the next one.
 fn push_every_second(pool: &mut Pool, from: u32) -> Result<(), Fail>
     requires some { 0 < from }
     requires few { from < 3 }
@@ -117,7 +117,7 @@ fn push_every_second(pool: &mut Pool, from: u32) -> Result<(), Fail>
     Ok(())
 }
 
-// Whether the first literal sets all others, each second one by the clauses that stand first.
+// Returns whether the first literal sets all others, every second one by the clauses that come first.
 fn chain_sets(trail: &mut Trail, pool: &Pool) -> Result<bool, Fail>
     requires fits { Fits trail.old pool.now.clauses }
     requires proper { All (IsProper VARIABLES) pool.now.clauses }
@@ -132,7 +132,7 @@ fn chain_sets(trail: &mut Trail, pool: &Pool) -> Result<bool, Fail>
     )
 }
 
-// Whether it does in a new trail.
+// As `chain_sets`, in a new trail.
 fn sets_all(alloc: Global, pool: &Pool) -> Result<bool, Fail>
     requires { All (IsProper VARIABLES) pool.now.clauses }
 {

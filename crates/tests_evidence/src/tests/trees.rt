@@ -1,4 +1,4 @@
-//! Trees over an OR of a line and its negation, with its output stuck at 1.
+//! A tree of one split, right and wrong, over an OR of a line and its negation with its output stuck at 1.
 
 use crate::tests::logs::is_refusal;
 use net_model::{Circuit, Fault, Site};
@@ -52,13 +52,13 @@ const TREES: &[Judged] = &[
     (Spent, 1, &[Rest], Some((WrongCount, 1))),
 ];
 
-// Whether the checker says of a tree what is wanted, alone and behind the tree of another pair.
+// Returns whether the checker says of a tree what is wanted, alone and after the tree of another pair.
 fn is_judged(alloc: Global, case: &Judged) -> Result<bool, Fail> {
     let circuit = circuit(alloc, NOT_AND_OR)?;
     is_judged_in(alloc, &circuit, case)
 }
 
-// The same for that circuit.
+// As `is_judged`, for that circuit.
 fn is_judged_in(alloc: Global, circuit: &Circuit, case: &Judged) -> Result<bool, Fail> {
     let (kind, cubes, tokens, wanted) = *case;
     let stuck = Fault::Stuck(Site::Stem(2), true);

@@ -3,10 +3,10 @@
 ghost use Rattle.std.specs.Prelude.{◌<◌, ◌+◌, ◌^◌, length};
 
 use crate::tests::logs::{Linked, lit, log_of};
+use learn_solver::trim;
 use pair_miter::{Chain, Log};
 use std::alloc::Global;
 use std::test::Fail;
-use trimmed_logs::trim;
 
 // How many clauses come before the chains' ends, the chains of a log, and those that are left.
 type Shortened = (u8, &'static [Linked], &'static [Linked]);
@@ -21,7 +21,7 @@ const CASES: &[Shortened] = &[
         &[(None, 1, &[(1, 2)]), (None, 3, &[(2, 3), (-1, 2)])],
         &[(None, 1, &[(1, 2)]), (None, 3, &[(2, 3), (-1, 2)])],
     ),
-    // The first isn't needed, and the numbers behind it go down by one. Those of the clauses stay.
+    // The first isn't needed, and the numbers after it go down by one. Those of the clauses stay.
     (
         2,
         &[(None, 1, &[]), (None, 2, &[(1, 1)]), (None, 4, &[(2, 2)])],
@@ -47,7 +47,6 @@ const CASES: &[Shortened] = &[
     ),
 ];
 
-// Whether a chain is this one.
 fn is_chain(chain: &Chain, wanted: &Linked) -> bool {
     let (at, start, steps) = *wanted;
     chain.start() == start
@@ -69,7 +68,7 @@ fn is_log(log: &Log, wanted: &[Linked]) -> bool {
             .all(|(chain, wanted)| is_chain(chain, wanted))
 }
 
-// Whether what is left of a log is what is wanted.
+// Returns whether the trimmed log is the wanted one.
 fn is_trimmed(alloc: Global, case: &Shortened) -> Result<bool, Fail> {
     let (count, chains, wanted) = *case;
     let log = log_of(alloc, chains)?;

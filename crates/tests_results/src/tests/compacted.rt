@@ -19,7 +19,7 @@ use sample_circuits::{AND_OF_TWO, CircuitParts, NOT_AND_OR, circuit};
 use std::alloc::{AllocError, Global};
 use std::test::Fail;
 
-// What is left of a text, if it is valid.
+// Returns what is left of a text, if it is valid.
 fn thinned(alloc: Global, circuit: &Circuit, text: &str) -> Result<Option<Thin>, Fail> {
     let mut shelf = SureShelf::new(alloc, 4096);
     shelf.put_file("r", text.as_bytes())?;
@@ -30,7 +30,7 @@ fn thinned(alloc: Global, circuit: &Circuit, text: &str) -> Result<Option<Thin>,
     }
 }
 
-// Whether this is left of a text, with so many patterns fewer.
+// Returns whether `left` is what is left of a text, with `dropped` patterns fewer.
 fn is_left(
     alloc: Global,
     circuit: &Circuit,
@@ -44,7 +44,7 @@ fn is_left(
     }
 }
 
-// The same, and of what is left nothing is dropped.
+// As `is_left`, and nothing is dropped from what is left.
 fn leaves(
     alloc: Global,
     circuit: &Circuit,
@@ -61,7 +61,7 @@ fn joined(alloc: Global, parts: &[&str]) -> Result<String, AllocError> {
     Ok(text)
 }
 
-// A circuit, a valid text in parts, what is left of it, and how many patterns it has fewer.
+// A circuit, a valid text in parts, what is left of it, and how many patterns fewer it has.
 type Case = (
     CircuitParts<'static>,
     &'static [&'static str],
@@ -98,7 +98,7 @@ const CASES: &[Case] = &[
     (NOT_AND_OR, NOT_ALL, NOT_ALL, 0),
     // No pattern, and one class.
     (LONE, LONE_ALL, LONE_ALL, 0),
-    // Patterns behind evidence, numbers that are named twice, and open marks that fell.
+    // Patterns after evidence, numbers that are named twice, and open marks that fell.
     (UNSEEN_COPY, COPY_ALL, COPY_LEFT, 1),
     (OR_OF_ONE, ONE_ALL, ONE_LEFT, 1),
     (OR_SHOWN_TWICE, TWICE_ALL, TWICE_LEFT, 1),
@@ -112,8 +112,9 @@ fn compacted_results(rt: HostRuntime) -> Result<(), Fail> {
     Ok(())
 }
 
-// How many sources there are, each of which is shown: one more than a block has lanes. At the vector with a single 1 its source's
-// stuck-at-0 fault is the only one that answers as that of all 0, at which each stuck-at-1 fault answers otherwise than the rest.
+// How many sources there are, each of them shown: one more than a block has lanes. At the vector with a single 1, the
+// stuck-at-0 fault of its source is the only one that answers all 0. At the vector of all 0, each stuck-at-1 fault
+// answers otherwise than the rest.
 const SHOWN: u32 = 257;
 
 fn shown_sources(alloc: Global) -> Result<Circuit, Fail> {
@@ -129,7 +130,7 @@ fn shown_sources(alloc: Global) -> Result<Circuit, Fail> {
     Ok(circuit(alloc, parts)?)
 }
 
-// The first two lines.
+// Appends the first two lines.
 fn push_head(text: &mut String) -> Result<(), AllocError> {
     let numbers = 2 * SHOWN + 1;
     write!(
@@ -139,7 +140,7 @@ fn push_head(text: &mut String) -> Result<(), AllocError> {
     Ok(())
 }
 
-// The pattern with a 1 at a source alone, if there is that source.
+// Appends the pattern with a 1 only at source `one`, or with none if there is no such source.
 fn push_one(text: &mut String, one: u32) -> Result<(), AllocError> {
     text.push_str("pattern ")?;
     for source in 0..SHOWN {
@@ -149,7 +150,8 @@ fn push_one(text: &mut String, one: u32) -> Result<(), AllocError> {
     Ok(())
 }
 
-// The patterns with a 1 at each source, and the classes that the first pattern of the result cuts off.
+// Appends the patterns with a 1 at one source, for each source, and the classes that the first pattern of the result
+// cuts off.
 fn push_ones(text: &mut String) -> Result<(), AllocError> {
     for one in 0..SHOWN {
         push_one(text, one)?;
@@ -162,7 +164,7 @@ fn push_ones(text: &mut String) -> Result<(), AllocError> {
     Ok(())
 }
 
-// The numbers of the faults of the sources from one on, and the end.
+// Appends the numbers of the faults of the sources, starting at source `from`, and the end.
 fn push_members(text: &mut String, from: u32) -> Result<(), AllocError>
     requires { from < 2 }
 {
@@ -180,7 +182,7 @@ fn push_members(text: &mut String, from: u32) -> Result<(), AllocError>
     Ok(())
 }
 
-// All 0 first: it cuts off the stuck-at-1 faults, and each pattern behind it a stuck-at-0 fault.
+// Returns a result with all 0 first: it cuts off the stuck-at-1 faults, and each pattern after it a stuck-at-0 fault.
 fn text_of_all(alloc: Global) -> Result<String, AllocError> {
     let mut text = String::new(alloc);
     push_head(&mut text)?;
@@ -196,8 +198,8 @@ fn text_of_all(alloc: Global) -> Result<String, AllocError> {
     Ok(text)
 }
 
-// Without all 0 the pattern at source 0 cuts off its stuck-at-0 fault and the stuck-at-1 faults of the others, and the next one that of
-// source 0.
+// Returns a result without all 0: the pattern at source 0 cuts off its stuck-at-0 fault and the stuck-at-1 faults of
+// the others, and the next one cuts off the stuck-at-1 fault of source 0.
 fn text_of_ones(alloc: Global) -> Result<String, AllocError> {
     let mut text = String::new(alloc);
     push_head(&mut text)?;

@@ -1,4 +1,5 @@
-//! Results with patterns behind evidence, numbers that evidence names twice, and marks that fell, and what is left of each.
+//! Results with patterns after evidence, numbers that evidence names twice, and marks that fell, and what is left of
+//! each.
 
 use net_model::Kind;
 use sample_circuits::CircuitParts;
@@ -10,7 +11,7 @@ pub(crate) const UNSEEN_COPY: CircuitParts<'static> = CircuitParts {
     positions: &[0, 2],
 };
 
-/// The open marks of 5 and 6 fall, which evidence behind patterns names once more.
+/// The open marks of 5 and 6 fall, and evidence after patterns names these once more.
 pub(crate) const COPY_ALL: &[&str] = &[
     "diatest 1 3 2 13\nbudget 65536 0 0\nsame 1 0 O 0 ? ?\nsame 2 0 O 0 ? ?\nsame 3 0 R ? ; 1\n",
     "same 4 0 R ? ; 1\nsame 5 0 O 0 ? ?\nsame 6 0 O 0 ? ?\nsame 7 0 R ? ; 1\nsame 8 0 R ? ; 1\n",
@@ -22,7 +23,7 @@ pub(crate) const COPY_ALL: &[&str] = &[
     "member 10 2 rep\nmember 11 0 equal\nmember 12 0 equal\nend\n",
 ];
 
-/// What is left of it.
+/// What is left of `COPY_ALL`.
 pub(crate) const COPY_LEFT: &[&str] = &[
     "diatest 1 3 2 13\nbudget 65536 0 0\npattern 101\npattern 010\nsame 3 0 R ? ; 1\n",
     "same 4 0 R ? ; 1\nsame 5 1 R ? ; 1 -1 2 -3 4\nsame 6 2 R ? ; 1 1 3 -3 4\nsame 7 0 R ? ; 1\n",
@@ -39,7 +40,7 @@ pub(crate) const OR_OF_ONE: CircuitParts<'static> = CircuitParts {
     positions: &[3, 1],
 };
 
-/// The open mark of 7 falls, which evidence behind the last pattern names once more.
+/// The open mark of 7 falls, and evidence after the last pattern names it once more.
 pub(crate) const ONE_ALL: &[&str] = &[
     "diatest 1 3 2 9\nbudget 0 0 0\nsame 1 0 R ? ; 1\nsame 2 0 R ? ; 1\nsame 3 0 O 1 ? ?\n",
     "same 4 0 O 1 ? ?\nsame 5 0 O ?\npattern 010\nsame 7 0 O ?\nsame 8 6 C\npattern 011\n",
@@ -48,7 +49,7 @@ pub(crate) const ONE_ALL: &[&str] = &[
     "member 5 3 rep\nmember 6 2 rep\nmember 7 3 equal\nmember 8 2 equal\nend\n",
 ];
 
-/// What is left of it.
+/// What is left of `ONE_ALL`.
 pub(crate) const ONE_LEFT: &[&str] = &[
     "diatest 1 3 2 9\nbudget 0 0 0\npattern 010\npattern 101\nsame 1 0 R ? ; 1\nsame 2 0 R ? ; 1\n",
     "same 7 5 C\nsame 8 6 C\nclass 0 - -\nclass 1 0 0\nclass 2 0 0\nclass 3 0 1\nclass 4 0 1\n",
@@ -63,7 +64,7 @@ pub(crate) const OR_SHOWN_TWICE: CircuitParts<'static> = CircuitParts {
     positions: &[3, 3],
 };
 
-/// The marks of 4, 7 and 8 fall, and that of 7 once more.
+/// The marks of 4, 7 and 8 fall, and that of 7 falls once more.
 pub(crate) const TWICE_ALL: &[&str] = &[
     "diatest 1 3 2 13\nbudget 65536 1 0\nsame 1 0 O 0 . 1 ? ?\nsame 2 0 O 1 0 ? . ?\n",
     "same 3 0 O 0 1 . ? ?\nsame 4 0 O 1 0 ? ? .\nsame 5 0 T .\nsame 6 0 T .\nsame 7 0 O 0 1 . ? ?\n",
@@ -75,7 +76,7 @@ pub(crate) const TWICE_ALL: &[&str] = &[
     "member 10 5 rep\nmember 11 3 rep\nmember 12 6 rep\nend\n",
 ];
 
-/// What is left of it.
+/// What is left of `TWICE_ALL`.
 pub(crate) const TWICE_LEFT: &[&str] = &[
     "diatest 1 3 2 13\nbudget 65536 1 0\npattern 011\npattern 000\npattern 100\nsame 4 2 C\n",
     "same 5 0 T .\nsame 6 0 T .\nsame 8 2 C\nclass 0 - -\nclass 1 0 0\nclass 2 0 0\nclass 3 0 0\n",

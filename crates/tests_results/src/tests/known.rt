@@ -1,4 +1,4 @@
-//! The result of a known circuit.
+//! A valid result of a known circuit, c17.
 
 use crate::tests::outcome::is_answered;
 use net_model::Kind;
@@ -41,7 +41,7 @@ const RESULT: &[&str] = &[
     "end\n",
 ];
 
-// It has 35 numbers in 23 classes, of which 12 are equal to others.
+// It has 35 numbers in 23 classes, and 12 of the numbers are equal to others.
 const SUMMARY: Summary = Summary {
     numbers: 35,
     patterns: 11,
@@ -55,7 +55,6 @@ fn is_accepted(alloc: Global) -> Result<bool, Fail> {
     is_answered(alloc, &known, RESULT, Ok(SUMMARY))
 }
 
-// However many bytes are read at once.
 #[test]
 fn the_result_of_c17(rt: HostRuntime) -> Result<(), Fail> {
     assert!(rt; is_accepted(rt.alloc())?);

@@ -7,13 +7,13 @@ use result_file::{Budgets, Evidence, Mark, Proof, Record, write_record};
 use std::alloc::{AllocError, Global};
 use std::test::Fail;
 
-/// Whether a record is written as a line.
+/// Returns whether the record is written as the line.
 pub(crate) fn is_written(alloc: Global, record: &Record, line: &str) -> Result<bool, Fail> {
     let written = write_record(alloc, record)?;
     Ok(written.as_slice() == line.as_bytes())
 }
 
-/// Whether a member with its partner and a proof are written as a line.
+/// Returns whether a member with its partner and a proof are written as the line.
 pub(crate) fn is_same(
     alloc: Global,
     (member, partner): (u32, u32),
@@ -28,7 +28,7 @@ pub(crate) fn is_same(
     is_written(alloc, &record, line)
 }
 
-/// A tree of these tokens.
+/// Returns a tree of these tokens.
 pub(crate) fn tree_of(alloc: Global, tokens: &[Token]) -> Result<Tree, AllocError> {
     let mut tree = Tree::new(alloc);
     push_all(&mut tree, tokens)?;
@@ -102,7 +102,7 @@ fn members_are_lines(rt: HostRuntime) -> Result<(), Fail> {
     Ok(())
 }
 
-// Whether bits are written as a line, after bit 1 is set, where there is one.
+// Returns whether bits are written as the line, after bit 1 is set if there is one.
 fn is_pattern(alloc: Global, width: usize, line: &str) -> Result<bool, Fail> {
     let mut bits = Bits::zeros(alloc, width)?;
     if width > 1 {
@@ -119,13 +119,11 @@ fn patterns_are_lines(rt: HostRuntime) -> Result<(), Fail> {
     Ok(())
 }
 
-// Whether spent proofs are written so.
 fn is_spent(alloc: Global, line: &str) -> Result<bool, Fail> {
     let tree = tree_of(alloc, &[Token::Rest])?;
     is_same(alloc, (3, 1), Proof::Spent(tree, Log::new(alloc)), line)
 }
 
-// Whether covered ones are.
 fn is_covered(alloc: Global, line: &str) -> Result<bool, Fail> {
     let tree = tree_of(alloc, &[Token::Split(10), Token::Closed, Token::Closed])?;
     is_same(alloc, (8, 0), Proof::Covered(tree), line)

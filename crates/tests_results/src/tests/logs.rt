@@ -8,7 +8,7 @@ use result_file::Proof;
 use std::alloc::{AllocError, Global};
 use std::test::Fail;
 
-// Adds a chain that starts at a clause.
+// Adds a chain that starts at clause `start`.
 fn push_chain(
     alloc: Global,
     log: &mut Log,
@@ -34,7 +34,7 @@ fn push_refutation(alloc: Global, log: &mut Log) -> Result<(), AllocError> {
     push_chain(alloc, log, 12, None, &[])
 }
 
-// Whether it is written so behind an open tree.
+// Returns whether a refutation is written as the line, after an open tree.
 fn is_refuted(alloc: Global, line: &str) -> Result<bool, Fail> {
     let mut log = Log::new(alloc);
     push_refutation(alloc, &mut log)?;
@@ -54,7 +54,7 @@ fn push_spent(alloc: Global, log: &mut Log) -> Result<(), AllocError> {
     push_chain(alloc, log, 1, Some(Lit::new(2, true)), &[])
 }
 
-// Whether they are written so behind an open tree.
+// Returns whether a spent log is written as the line, after an open tree.
 fn is_spent(alloc: Global, line: &str) -> Result<bool, Fail> {
     let mut log = Log::new(alloc);
     push_spent(alloc, &mut log)?;

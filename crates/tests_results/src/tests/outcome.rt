@@ -1,4 +1,4 @@
-//! What the check of a text answers.
+//! What the check says of a text, read in pieces of 1 and of 4,096 bytes.
 
 ghost use Rattle.std.specs.Prelude.{◌<◌};
 
@@ -12,7 +12,7 @@ use std::test::Fail;
 /// The counts of a valid text, or why it isn't accepted.
 pub(crate) type CheckOutcome = Result<Summary, FileFault>;
 
-// What the check says of a text that is put in a shelf.
+// Returns what the check says of a text that is put on a shelf.
 fn checked(
     alloc: Global,
     circuit: &Circuit,
@@ -27,7 +27,7 @@ fn checked(
     }
 }
 
-// What it says of a text that is read in pieces of so many bytes.
+// Returns what the check says of a text that is read in pieces of `chunk` bytes.
 fn outcome(alloc: Global, circuit: &Circuit, text: &str, chunk: usize) -> Result<CheckOutcome, Fail>
     requires { 0 < chunk }
 {
@@ -35,7 +35,7 @@ fn outcome(alloc: Global, circuit: &Circuit, text: &str, chunk: usize) -> Result
     checked(alloc, circuit, &mut shelf, text)
 }
 
-// Whether it says this, however many bytes are read at once.
+// Returns whether the check says this of a text, both in pieces of 1 and of 4,096 bytes.
 fn is_outcome(
     alloc: Global,
     circuit: &Circuit,
@@ -48,7 +48,6 @@ fn is_outcome(
     )
 }
 
-/// Appends parts of a text.
 pub(crate) fn push_parts(text: &mut String, parts: &[&str]) -> Result<(), AllocError> {
     for part in parts {
         text.push_str(part)?;
@@ -56,7 +55,7 @@ pub(crate) fn push_parts(text: &mut String, parts: &[&str]) -> Result<(), AllocE
     Ok(())
 }
 
-/// Whether the check says this of a text, which comes in these parts.
+/// Returns whether the check says this of a text, which is given in parts.
 pub(crate) fn is_answered(
     alloc: Global,
     circuit: &Circuit,

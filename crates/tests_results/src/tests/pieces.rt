@@ -3,13 +3,13 @@
 use result_file::Lines;
 use std::test::Fail;
 
-// Whether the next line is this one.
+// Returns whether the next line is this one.
 fn next_is(lines: &mut Lines, wanted: &str) -> Result<bool, Fail> {
     let line = lines.take_line()?.ok_or("a line")?;
     Ok(line.as_slice() == wanted.as_bytes())
 }
 
-// Whether there is no next line yet.
+// Returns whether there is no next line yet.
 fn no_next(lines: &mut Lines) -> Result<bool, Fail> {
     Ok(lines.take_line()?.is_none())
 }
@@ -47,7 +47,7 @@ fn a_piece_has_lines_and_ends_at_its_line_feed(rt: HostRuntime) -> Result<(), Fa
     Ok(())
 }
 
-// Whether no line comes as a million bytes are fed one by one.
+// Returns whether no line comes while a million bytes are fed one by one.
 fn waits(lines: &mut Lines) -> Result<bool, Fail> {
     for _ in 0..1_000_000 {
         lines.feed(b"0")?;
@@ -58,7 +58,7 @@ fn waits(lines: &mut Lines) -> Result<bool, Fail> {
     Ok(true)
 }
 
-// How long the next line is.
+// Returns how long the next line is.
 fn next_length(lines: &mut Lines) -> Result<usize, Fail> {
     let line = lines.take_line()?.ok_or("a line")?;
     Ok(line.len())
@@ -70,7 +70,7 @@ fn comes_by_bytes(lines: &mut Lines) -> Result<bool, Fail> {
     Ok(none && next_length(lines)? == 1_000_000)
 }
 
-// A body that goes over what it holds again for each piece looks at 500,000 million bytes here.
+// Code that goes over all that it holds for each piece would look at 500,000 million bytes here.
 #[test]
 fn a_long_line_comes_byte_by_byte(rt: HostRuntime) -> Result<(), Fail> {
     let mut lines = Lines::new(rt.alloc());
@@ -78,7 +78,7 @@ fn a_long_line_comes_byte_by_byte(rt: HostRuntime) -> Result<(), Fail> {
     Ok(())
 }
 
-// Whether a million lines come, and no more.
+// Returns whether a million lines come, and no more.
 fn gives_a_million(lines: &mut Lines) -> Result<bool, Fail> {
     for _ in 0..1_000_000 {
         if no_next(lines)? {
@@ -93,7 +93,7 @@ fn take_a_million(lines: &mut Lines, piece: &[u8]) -> Result<bool, Fail> {
     gives_a_million(lines)
 }
 
-// And one that moves what it holds for each line moves 500,000 million here.
+// Code that moves all that it holds for each line would move 500,000 million bytes here.
 #[test]
 fn many_lines_come_at_once(rt: HostRuntime) -> Result<(), Fail> {
     let piece = vec![in rt.alloc(); b'\n'; 1_000_000]?;

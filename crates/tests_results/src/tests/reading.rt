@@ -4,14 +4,14 @@ use result_file::{Record, RecordFault, read_record, write_record};
 use std::alloc::Global;
 use std::test::Fail;
 
-// Whether a record is written as a line, before the line feed.
+// Returns whether the record is written as the line, before the line feed.
 fn is_written(alloc: Global, record: &Record, line: &str) -> Result<bool, Fail> {
     let mut written = write_record(alloc, record)?;
     written.pop();
     Ok(written.as_slice() == line.as_bytes())
 }
 
-// Whether a line is read as a record that is written as the line again.
+// Returns whether the line is read as a record that is written as the line again.
 fn is_read_back(alloc: Global, line: &str) -> Result<bool, Fail> {
     let record = read_record(alloc, line.as_bytes())?;
     is_written(alloc, &record, line)
@@ -45,7 +45,7 @@ fn lines_are_read_back(rt: HostRuntime) -> Result<(), Fail> {
     Ok(())
 }
 
-// Whether a line is no record's spelling.
+// Returns whether the line is no record's spelling.
 fn is_refused(alloc: Global, line: &[u8]) -> bool {
     matches!(read_record(alloc, line), Err(RecordFault::Syntax))
 }

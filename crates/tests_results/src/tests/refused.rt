@@ -1,4 +1,4 @@
-//! Texts that are refused.
+//! Results that are refused, by which rule and at which line.
 
 use crate::tests::outcome::is_answered;
 use crate::tests::texts::{
@@ -20,7 +20,7 @@ const BEFORE: &str = "same 1 0 T 0 . .\nsame 2 0 T 0 . .\nsame 3 0 T 0 . .\nsame
 
 const REST: &str = "same 2 0 T 0 . .\nsame 3 0 T 0 . .\nsame 6 0 T 0 . .\nsame 7 4 C\n";
 
-// A text in parts, and the rule that it breaks with the line.
+// A text in parts, the rule that it breaks, and the line.
 type Case = (&'static [&'static str], ResultKind, u64);
 
 fn is_refused(alloc: Global, circuit: &Circuit, case: &Case) -> Result<bool, Fail> {
@@ -29,7 +29,7 @@ fn is_refused(alloc: Global, circuit: &Circuit, case: &Case) -> Result<bool, Fai
     is_answered(alloc, circuit, parts, Err(fault))
 }
 
-// The first text for a circuit that isn't refused so.
+// Returns the first text for the circuit that isn't refused as its case says.
 fn first_wrong(alloc: Global, circuit: &Circuit, cases: &[Case]) -> Result<Option<usize>, Fail> {
     for (at, case) in cases.iter().enumerate() {
         if !is_refused(alloc, circuit, case)? {
@@ -259,7 +259,7 @@ fn repeated_lines(rt: HostRuntime) -> Result<(), Fail> {
     Ok(())
 }
 
-// Whether the third read fails, of four bytes, of which the first line is no record.
+// Returns whether the check fails at the third read, each of four bytes, though the first line is no record.
 fn fails(alloc: Global, circuit: &Circuit, shelf: &mut MemoryShelf) -> Result<bool, Fail> {
     shelf.put_file("r", b"x\ndiatest 1 2 1 7\n")?;
     shelf.open_file("r")?;

@@ -8,7 +8,7 @@ use result_file::{Mark, push_classes, push_members};
 use std::alloc::{AllocError, Global};
 use std::test::Fail;
 
-// The classes of three numbers, of which the last answers otherwise than the others.
+// Returns the classes of three numbers, the last one with another answer than the others.
 fn classes_of_three(alloc: Global) -> Result<Classes, AllocError>
     ensures { IfOk result (λ classes. length classes.class_of ≡ 3) }
 {

@@ -1,4 +1,4 @@
-//! Texts that are valid.
+//! Results that are valid.
 
 use crate::tests::outcome::is_answered;
 use crate::tests::texts::{
@@ -26,7 +26,7 @@ fn is_accepted(alloc: Global, circuit: &Circuit, numbers: u32, case: &Case) -> R
     is_answered(alloc, circuit, parts, Ok(summary))
 }
 
-// The first text for a circuit of so many numbers that isn't accepted so.
+// Returns the first text for a circuit with `numbers` numbers that isn't accepted as its case says.
 fn first_wrong(
     alloc: Global,
     circuit: &Circuit,
@@ -56,7 +56,7 @@ const A_GATE: &[Case] = &[
         &[AND_HEAD, AND_EVIDENCE, AND_CLASSES, AND_MEMBERS],
         [4, 5, 2, 0],
     ),
-    // a cut lets the mark of a new representative fall, and no other
+    // at a cut the mark of a new representative falls, and no other
     (
         &[
             "diatest 1 2 1 7\nbudget 0 0 0\nsame 1 0 O ?\nsame 2 0 O ?\npattern 11\n",

@@ -20,8 +20,8 @@ const THRICE_COUNTS: FileText = Is(b"classes 9 asks 2 depth 2\n");
 const EMPTY_RESULT: &[u8] =
     b"diatest 1 0 0 1\nbudget 4 64 2000\nclass 0 - -\nmember 0 0 rep\nend\n";
 
-// An AND, a netlist of no lines and so of one class, and three positions. The plan may have a name of its own, or that of the result or
-// of the netlist.
+// An AND, a netlist of no lines and so of one class, and three positions. The plan may have a name of its own, or that
+// of the result or the netlist.
 static ADAPTED: [Case; 6] = [
     (OF_AND, TO_ANOTHER, 0, AND_COUNTS, ("p", Is(AND_PLAN))),
     (OF_AND, TO_ANOTHER, 0, Any, ("r", Is(AND_RESULT))),
@@ -83,7 +83,8 @@ static NOT_ADAPTED: [Case; 6] = [
     (&[("r", AND_RESULT)], TO_ANOTHER, 7, Is(b""), ("p", Absent)),
 ];
 
-// A refused netlist, results that aren't valid, a plan among them, and absent files: no file is created, and none is changed.
+// A refused netlist, results that aren't valid, one of them a plan, and missing files: no file is created, and none is
+// changed.
 #[test]
 fn results_that_are_not_adapted(rt: HostRuntime) -> Result<(), Fail> {
     all_leave(&rt, rt.alloc(), 7, &NOT_ADAPTED)

@@ -1,4 +1,4 @@
-//! Runs over a shelf of which each call fails in turn.
+//! Runs over a shelf, each call of which fails in turn.
 
 use crate::tests::runs::FileText::{Absent, Any, Is};
 use crate::tests::runs::{File, Left, left_by};
@@ -14,7 +14,7 @@ const CHUNK: usize = 16;
 // More calls than any of these runs makes.
 const LIMIT: u64 = 10_000;
 
-// The files that a run reads, its words, and the name of a file that it makes, or of none.
+// The files that a run reads, its words, and the name of a file that it makes, or of no file.
 type Calling = (&'static [File], &'static [&'static str], &'static str);
 
 static CALLS: [Calling; 17] = [
@@ -73,7 +73,7 @@ static CALLS: [Calling; 17] = [
     (&[], &["synth", "2", "n", "r"], "r"),
 ];
 
-// Each file is opened, and read until there is no more.
+// Returns how many calls open each file and read it until nothing is left.
 fn calls_to_read(files: &[File]) -> u64 {
     let mut calls = 0_u64;
     for (_, bytes) in files {
@@ -84,8 +84,8 @@ fn calls_to_read(files: &[File]) -> u64 {
     calls
 }
 
-// Whether a run of which a call failed shows it: a read leaves nothing, and a write a part of what the run leaves of which no
-// call fails, which prints last. What it read is as it was.
+// Whether a run shows that a call failed: a failed read leaves nothing, and a failed write leaves a part of what
+// `whole` left, the run without a failed call; it prints last.
 fn shows(left: &Left, whole: &Left, name: &str, call: u64, reads: u64) -> bool {
     if call < reads {
         return left.ended(7, Is(b"")) && left.holds(name, Absent);
@@ -99,7 +99,8 @@ fn shows(left: &Left, whole: &Left, name: &str, call: u64, reads: u64) -> bool {
         && printed
 }
 
-// Whether each failing call of a run shows, until none fails. The last ones print, so that the file is whole.
+// Whether each failing call of a run shows and leaves the files that were read as before, until none fails. The last
+// calls print, so that the file is whole.
 fn each_shows(alloc: Global, case: &Calling) -> Result<bool, AllocError> {
     let (files, words, name) = *case;
     let whole = left_by(alloc, CHUNK, &[], files, words)?;

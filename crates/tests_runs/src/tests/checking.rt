@@ -20,7 +20,7 @@ static PIECES: [&[u8]; 10] = [
     b"end\n",
 ];
 
-// The result with another piece at this place.
+// Returns the result with `piece` in place of the piece `at`.
 fn result_with(alloc: Global, at: usize, piece: &[u8]) -> Result<Vec<u8>, AllocError> {
     let mut text = Vec::new(alloc);
     for (place, own) in PIECES.iter().enumerate() {
@@ -29,7 +29,7 @@ fn result_with(alloc: Global, at: usize, piece: &[u8]) -> Result<Vec<u8>, AllocE
     Ok(text)
 }
 
-// The place of a piece, what stands there in its place, the status, and what is printed.
+// The place of a piece, what is put in its place, the status, and what is printed.
 type Checking = (usize, &'static [u8], u8, &'static [u8]);
 
 // The result as it was made; with a tree of one closed leaf, and with a tree that has an open leaf; without a line of
@@ -74,7 +74,7 @@ fn is_checked(
     Ok(left.ended(status, Is(console)) && left.holds("r", Is(output)))
 }
 
-// Bytes come one by one, and all at once.
+// Whether the result is judged so if its bytes come one by one, and if they come all at once.
 fn is_judged(alloc: Global, case: &Checking) -> Result<bool, AllocError> {
     let (at, piece, status, console) = *case;
     let result = result_with(alloc, at, piece)?;
@@ -128,7 +128,7 @@ fn refutations_that_are_checked(rt: HostRuntime) -> Result<(), Fail> {
     Ok(())
 }
 
-// A refused netlist, and an absent result.
+// A refused netlist, and a missing result.
 static NOT_READ: [Case; 2] = [
     (
         &[("n", b"z=NOT(Z)\n")],

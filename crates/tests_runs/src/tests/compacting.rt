@@ -24,7 +24,8 @@ const NONE_DROPPED: FileText = Is(b"numbers 7 patterns 3 classes 5 equal 2 open 
 
 const TRUTH_KEPT: FileText = Is(b"numbers 11 patterns 2 classes 4 equal 7 open 0 dropped 0\n");
 
-// The new file may have a name of its own, or that of the result or of the netlist. All that is left of a result is needed.
+// The new file may have a name of its own, or that of the result or the netlist. Every pattern that is left of a result
+// is needed.
 static COMPACTED: [Case; 6] = [
     (OF_AND, TO_ANOTHER, 0, ONE_DROPPED, ("m", Is(AND_COMPACTED))),
     (OF_AND, TO_ANOTHER, 0, Any, ("r", Is(AND_RESULT))),
@@ -86,13 +87,13 @@ static NOT_COMPACTED: [Case; 6] = [
     (&[("r", AND_RESULT)], TO_ANOTHER, 7, Is(b""), ("m", Absent)),
 ];
 
-// A refused netlist, results that aren't valid, and absent files: no file is created, and none is changed.
+// A refused netlist, results that aren't valid, and missing files: no file is created, and none is changed.
 #[test]
 fn results_that_are_not_compacted(rt: HostRuntime) -> Result<(), Fail> {
     all_leave(&rt, rt.alloc(), 7, &NOT_COMPACTED)
 }
 
-// What a run of these words leaves over a netlist and a result.
+// Returns what a run of these words leaves over a netlist and a result.
 fn left_of(
     alloc: Global,
     words: &[&str],
@@ -103,7 +104,8 @@ fn left_of(
     left_by(alloc, 4096, &[], &files, words)
 }
 
-// Whether a generated result is compacted with this said of it, to one that `check` accepts and of which all is needed.
+// Whether a generated result is compacted, with `said` printed of it, to one that `check` accepts and that needs all of
+// its patterns.
 fn stays_compacted(alloc: Global, netlist: &[u8], said: FileText) -> Result<bool, Fail> {
     let made = left_by(alloc, 4096, &[], &[("n", netlist)], &["gen", "n", "r"])?;
     let whole = made.copy_of(alloc, "r")?;

@@ -16,7 +16,7 @@ fn is_of_lines(text: &[u8]) -> bool {
     text.is_empty() || text.ends_with(b"\n")
 }
 
-// What is said of a text whose last line is cut, or that has no further line.
+// Returns what is said of a text whose last line is cut, or that lacks a further line: then `wanting` names the rule.
 fn said(alloc: Global, file: &str, text: &[u8], wanting: &str) -> Result<String, AllocError> {
     let kind = if is_of_lines(text) { wanting } else { "Syntax" };
     let lines = text.iter().filter(|byte| **byte == b'\n').count();
@@ -46,7 +46,7 @@ fn refuses_plan(alloc: Global, bytes: &[u8]) -> Result<bool, AllocError> {
     Ok(left.ended(10, Is(console.as_bytes())))
 }
 
-// The list that is cut is refused, unless it is cut between lines.
+// Whether the cut list is refused, unless it is cut between lines.
 fn refuses_list(alloc: Global, list: &[u8]) -> Result<bool, AllocError> {
     let console = said(alloc, "vectors", list, "")?;
     let left = plain(alloc, &[("n", AND), ("v", list)], &["grade", "n", "v", "r"])?;

@@ -70,7 +70,7 @@ static NOT_MADE: [Case; 4] = [
     (&[("r", AND_RESULT)], FULL, 7, Is(b""), ("d", Absent)),
 ];
 
-// A refused netlist, a refused result, and absent files: no dictionary is made.
+// A refused netlist, a refused result, and missing files: no dictionary is made.
 #[test]
 fn dictionaries_that_are_not_made(rt: HostRuntime) -> Result<(), Fail> {
     all_leave(&rt, rt.alloc(), 7, &NOT_MADE)
@@ -137,7 +137,7 @@ fn dictionaries_that_are_converted(rt: HostRuntime) -> Result<(), Fail> {
     all_leave(&rt, rt.alloc(), 7, &CONVERTED)
 }
 
-// The first bytes of a dictionary, so many, with one of them changed, and other bytes behind them.
+// Returns the first `length` bytes of a dictionary, with one of them changed, and the bytes `more` after them.
 fn changed(
     alloc: Global,
     dict: &[u8],
@@ -155,7 +155,7 @@ fn changed(
     Ok(bytes)
 }
 
-// A dictionary, how many bytes of it are taken, a byte that is changed, what stands behind, and what is said of it.
+// A dictionary, how many of its bytes are taken, a byte that is changed, what comes after them, and what is said of it.
 type Changing = (
     &'static [u8],
     usize,
@@ -183,7 +183,7 @@ fn refuses(alloc: Global, command: &str, dict: &[u8], console: &[u8]) -> Result<
     Ok(left.ended(5, Is(console)) && left.holds("d", Absent))
 }
 
-/// Whether `convert` and `diagnose` refuse a dictionary, with this said of it.
+/// Whether `convert`, `diagnose` and `rank` refuse a dictionary, with this said of it.
 pub(crate) fn is_refused(alloc: Global, dict: &[u8], said: &str) -> Result<bool, AllocError> {
     let console = format!(in alloc; "dictionary: {said}\n")?;
     let console = console.as_bytes();
@@ -194,7 +194,8 @@ pub(crate) fn is_refused(alloc: Global, dict: &[u8], said: &str) -> Result<bool,
     )
 }
 
-// A dictionary that is cut, changed at a byte, or followed by more is refused by `convert`, `diagnose` and `rank`, whatever the log.
+// A dictionary that is cut, changed at a byte, or followed by more is refused by `convert`, `diagnose` and `rank`,
+// whatever the log.
 #[test]
 fn dictionaries_that_are_refused(rt: HostRuntime) -> Result<(), Fail> {
     for (at, (dict, length, change, more, said)) in CHANGED.iter().enumerate() {
@@ -221,7 +222,7 @@ static DIAGNOSED: [Diagnosing; 10] = [
     (b"", 6, b"log: Missing at line 1\n"),
 ];
 
-/// Whether a log is so diagnosed by each dictionary of the AND.
+/// Whether each dictionary of the AND diagnoses a log so.
 pub(crate) fn is_diagnosed(
     alloc: Global,
     log: &[u8],
@@ -248,7 +249,7 @@ fn logs_that_are_diagnosed(rt: HostRuntime) -> Result<(), Fail> {
     Ok(())
 }
 
-// A dictionary is no log.
+// A dictionary isn't a log.
 static NO_LOG: [Case; 1] = [(
     &[("d", ONE)],
     &["diagnose", "d", "d"],
@@ -262,7 +263,7 @@ fn one_name_for_a_dictionary_and_a_log(rt: HostRuntime) -> Result<(), Fail> {
     all_leave(&rt, rt.alloc(), 7, &NO_LOG)
 }
 
-// A dictionary may replace the result or the netlist that it is made of.
+// A dictionary may replace the result or the netlist from which it is made.
 const OVER_THE_NETLIST: &[&str] = &["dict", "passfail", "n", "r", "n"];
 
 const OVER_THE_RESULT: &[&str] = &["dict", "passfail", "n", "r", "r"];

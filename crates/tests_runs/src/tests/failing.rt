@@ -1,4 +1,4 @@
-//! Runs over a shelf of which one call fails.
+//! Runs over a shelf, one call of which fails.
 
 use crate::tests::runs::FileText::{self, Absent, Any, Is, Part};
 use crate::tests::runs::{Case, all_leave, left_by};
@@ -10,7 +10,8 @@ use std::test::Fail;
 // A call fails: its number, the status, and the output.
 type Failing = (u64, u8, FileText<'static>);
 
-// Each of these calls fails in a run that moves so many bytes at a time, and prints last. What it read is as it was.
+// Each of these calls fails in a run that moves `chunk` bytes at a time and prints last. The files that it read are as
+// before.
 fn each_fails(
     rt: &impl Abort,
     alloc: Global,
@@ -28,7 +29,8 @@ fn each_fails(
     Ok(())
 }
 
-// Over the empty netlist call 0 opens it, call 1 reads it, call 2 creates the result, call 3 writes its first three bytes.
+// Over the empty netlist call 0 opens it, call 1 reads it, call 2 creates the result, call 3 writes its first three
+// bytes.
 static OF_GEN: [Failing; 5] = [
     (0, 7, Absent),
     (1, 7, Absent),
@@ -50,8 +52,8 @@ fn an_absent_netlist_shows(rt: HostRuntime) -> Result<(), Fail> {
     all_leave(&rt, rt.alloc(), 7, &NO_NETLIST)
 }
 
-// The old dictionary is opened by call 0 and read by calls 1 and 2; call 3 creates the new one, which calls 4 and 5 write, and
-// call 6 prints.
+// The old dictionary is opened by call 0 and read by calls 1 and 2; call 3 creates the new one, which calls 4 and 5
+// write, and call 6 prints.
 static OF_CONVERT: [Failing; 7] = [
     (0, 7, Absent),
     (1, 7, Absent),
@@ -68,8 +70,8 @@ fn each_failing_call_of_convert_shows(rt: HostRuntime) -> Result<(), Fail> {
     each_fails(&rt, rt.alloc(), 32, &[("o", ONE)], &words, "d", &OF_CONVERT)
 }
 
-// The netlist is opened and read by calls 0 to 2, the result by calls 3 to 5; call 6 creates the dictionary, call 7 writes it,
-// and call 8 prints.
+// The netlist is opened and read by calls 0 to 2, the result by calls 3 to 5; call 6 creates the dictionary, call 7
+// writes it, and call 8 prints.
 static OF_DICT: [Failing; 6] = [
     (2, 7, Absent),
     (3, 7, Absent),
@@ -86,8 +88,8 @@ fn each_failing_call_of_dict_shows(rt: HostRuntime) -> Result<(), Fail> {
     each_fails(&rt, rt.alloc(), 4096, &files, &words, "d", &OF_DICT)
 }
 
-// The netlist is opened and read by calls 0 to 2, the result by calls 3 to 6; call 7 creates the new file, which calls 8 and 9
-// write, and call 10 prints.
+// The netlist is opened and read by calls 0 to 2, the result by calls 3 to 6; call 7 creates the new file, which calls
+// 8 and 9 write, and call 10 prints.
 static OF_COMPACT: [Failing; 9] = [
     (0, 7, Absent),
     (2, 7, Absent),
@@ -116,7 +118,7 @@ static OF_DIAGNOSE: [Failing; 5] = [
     (6, 8, Absent),
 ];
 
-// Where 13 bytes are moved at a time, call 10 prints what is left.
+// If 13 bytes are moved at a time, call 10 prints what is left.
 #[test]
 fn each_failing_call_of_diagnose_shows(rt: HostRuntime) -> Result<(), Fail> {
     let files = [("d", ONE), ("l", LOG)];

@@ -33,7 +33,7 @@ static FOLLOWED: [Following; 18] = [
     (AND_PLAN, b"1 0\n2 1", 6, b"log: Syntax at line 2\n"),
 ];
 
-// It asks a pattern of which there is none.
+// A plan that asks a pattern that doesn't exist.
 const BEYOND: &[u8] =
     b"adapt 1 1 4 5\nask 4 2\non 0\nask 2 2\non 0\nask 3 2\non 1\nclass 0\non 0\nclass 4\non 1\nclass 3\non 1\nask 0 2\non 1\nclass 1\non 0\nclass 2\nend\n";
 
@@ -92,7 +92,7 @@ static REFUSED: [Following; 11] = [
     ),
 ];
 
-// Whether a run so follows the log in the plan, and changes neither.
+// Whether a run follows the log in the plan so, and changes neither.
 fn is_followed(alloc: Global, case: &Following) -> Result<bool, AllocError> {
     let (adaptive, log, status, console) = *case;
     let left = plain(alloc, &[("p", adaptive), ("l", log)], FOLLOW)?;
@@ -115,7 +115,7 @@ fn plans_that_are_refused(rt: HostRuntime) -> Result<(), Fail> {
     Ok(())
 }
 
-// The plan is judged before the log is read; a plan in place of a log; and files that aren't there.
+// The plan is judged before the log is read; a plan in place of a log; and missing files.
 static OTHERS: [Case; 4] = [
     (
         &[("p", b"end\n")],

@@ -7,10 +7,10 @@ use std::alloc::{AllocError, Global};
 use std::test::Fail;
 use synth_netlist::synth_text;
 
-// A wire, with its gate before its output and behind it; no line at all; an AND; an OR of a signal and its complement, without
-// a search too; a flip-flop that toggles; the wire without a block of the stream, where no vector is kept, and all faults stay
-// in one class; an input that no position shows, where the miter of each pair has the empty clause alone; a multiplexer; and a
-// constant, whose only pattern has no bit.
+// A wire, with its gate before its output and after it; no line at all; an AND; an OR of a signal and its complement,
+// without a search too; a flip-flop that toggles; the wire without a block of the stream: no vector is kept, and all
+// faults stay in one class; an input that no position shows: the miter of each pair has the empty clause alone; a
+// multiplexer; and a constant, whose only pattern has no bit.
 static SMALL: [Case; 11] = [
     (
         &[("n", b"INPUT(a)\nz=BUFF(a)\nOUTPUT(z)\n")],
@@ -184,7 +184,7 @@ static KNOWN: [Case; 4] = [
     ),
 ];
 
-// Whether the run leaves what is wanted, and `check` accepts it.
+// Whether the run leaves what the case says, and `check` accepts it.
 fn is_known(alloc: Global, case: &Case) -> Result<bool, Fail> {
     let (files, words, status, console, (name, file)) = *case;
     let left = plain(alloc, files, words)?;
@@ -224,15 +224,15 @@ fn is_left_open(file: &[u8]) -> bool {
     count(line, b'.') == 4 && line.contains(&b'?') && (groups == 1 || (!open && groups == 2))
 }
 
-// Whether the run leaves number 66 so, behind these first lines, and `check` accepts it.
+// Whether the run leaves number 66 so, after these first lines, and `check` accepts it.
 fn is_left(alloc: Global, left: &Left) -> Result<bool, Fail> {
     let file = left.copy_of(alloc, "r")?;
     let begins = left.holds("r", Begins(b"diatest 1 9 1 67\nbudget 4 4 1\n"));
     Ok(left.ended(0, Any) && begins && is_left_open(&file) && is_accepted(alloc, left)?)
 }
 
-// Four closed cubes don't show that the output of the parity circuit is always 1: one learned clause is all that may be
-// found then, or a refutation.
+// Four closed cubes don't show that the output of the parity circuit is always 1: then at most one learned clause may
+// be found, or a refutation.
 #[test]
 fn a_pair_that_the_search_leaves_open(rt: HostRuntime) -> Result<(), Fail> {
     let words = ["gen", "n", "r", "--cubes", "4", "--conflicts", "1"];
@@ -261,7 +261,8 @@ fn is_simulated(alloc: Global, netlist: &[u8]) -> Result<bool, AllocError> {
     )
 }
 
-// A netlist of 1,200 gates at 16,384 vectors: a simulation of one vector and one fault at a time wouldn't end in the time of a test.
+// A netlist of 1,200 gates at 16,384 vectors: a simulation of one vector and one fault at a time wouldn't end in the
+// time of a test.
 #[test]
 fn results_of_a_large_netlist(rt: HostRuntime) -> Result<(), Fail> {
     let netlist = synth_text(rt.alloc(), 300)?;

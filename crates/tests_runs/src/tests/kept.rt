@@ -14,7 +14,7 @@ use std::alloc::{AllocError, Global};
 use std::test::Fail;
 use word_sim::{Block, Stream};
 
-// The bits of an answer of a few positions as a number.
+// Returns the bits of an answer of a few positions as a number.
 fn code_of(answer: &Answer) -> u64 {
     let mut code = 0_u64;
     for at in 0..answer.len() {
@@ -30,7 +30,7 @@ fn code_under(alloc: Global, circuit: &Circuit, fault: Fault, v: &Vector) -> Res
     Ok(code_of(&plain_answer(alloc, circuit, &fault, v)?))
 }
 
-// What each fault answers to a vector.
+// Returns what each fault answers to a vector.
 fn codes_at(
     alloc: Global,
     circuit: &Circuit,
@@ -44,7 +44,7 @@ fn codes_at(
     Ok(codes)
 }
 
-// The lowest number that was alike so far and answers alike now.
+// Returns the lowest number that was alike so far and answers alike now.
 fn lead_of(leads: &[usize], codes: &[u64], number: usize) -> usize {
     let alike = |other: &usize| {
         leads.get(*other) == leads.get(number) && codes.get(*other) == codes.get(number)
@@ -52,7 +52,7 @@ fn lead_of(leads: &[usize], codes: &[u64], number: usize) -> usize {
     (0..number).find(alike).unwrap_or(number)
 }
 
-// The same for each number.
+// Returns the same for each number.
 fn leads_after(alloc: Global, leads: &[usize], codes: &[u64]) -> Result<Vec<usize>, AllocError> {
     let mut next = Vec::new(alloc);
     for number in 0..leads.len() {
@@ -70,7 +70,8 @@ fn push_line(text: &mut Vec<u8>, v: &Vector) -> Result<(), AllocError> {
     Ok(())
 }
 
-// The lines of the vectors that told faults apart, and for each fault the lowest one that none of them tells from it.
+// The lines of the vectors that distinguish faults, and for each fault the lowest one that none of them distinguishes
+// from it.
 #[derive(Drop)]
 struct Told {
     lines: Vec<u8>,
@@ -78,7 +79,7 @@ struct Told {
 }
 
 impl Told {
-    // Adds the line of a vector that tells two faults apart which no vector told apart before it.
+    // Adds the line of a vector if it distinguishes two faults that no vector before it distinguished.
     fn add(
         &mut self,
         alloc: Global,
@@ -109,7 +110,8 @@ impl Told {
     }
 }
 
-// The stream behind its first blocks, which an empty block gets: as many of five as there are lanes for.
+// Returns the stream after its first blocks, which are put into the empty `block`: as many of five as there are lanes
+// for.
 fn begun(block: &mut Block) -> Stream
     requires { block.old.vectors ≡ [] }
     ensures stream { result.sources ≡ block.old.sources }
@@ -120,7 +122,7 @@ fn begun(block: &mut Block) -> Stream
     stream
 }
 
-// The lines of the vectors of the first five blocks that tell faults apart.
+// Returns the lines of the vectors of the first five blocks that distinguish faults.
 fn told_lines(
     alloc: Global,
     circuit: &Circuit,
@@ -142,7 +144,7 @@ fn told_lines(
     Ok(lines)
 }
 
-// The same for a netlist.
+// Returns the same for a netlist.
 fn kept_lines(alloc: Global, netlist: &[u8]) -> Result<Vec<u8>, Fail> {
     let design = cut(alloc, &read(alloc, netlist)?)?;
     let circuit = &design.circuit;
@@ -163,8 +165,8 @@ const FIVE_BLOCKS: &[&str] = &[
     "0",
 ];
 
-// Five blocks of the stream are two fills of the lanes, of which the second has one block: the kept vectors are those of a plain
-// evaluation of each fault at each vector, worked out outside.
+// Five blocks of the stream are two fills of the lanes, and the second has one block. The kept vectors are those of a
+// plain evaluation of each fault at each vector, worked out outside.
 static KEPT: [Case; 2] = [
     (
         &[("n", C17)],
@@ -203,7 +205,7 @@ static NETLISTS: [(&[u8], &[u8]); 2] = [
     (S27, b"diatest 1 7 4 53\nbudget 5 0 0\n"),
 ];
 
-// Whether the patterns of a run's result are the vectors that tell faults apart.
+// Whether the patterns of a run's result are the vectors that distinguish faults.
 fn keeps_those(alloc: Global, netlist: &[u8], head: &[u8]) -> Result<bool, Fail> {
     let lines = kept_lines(alloc, netlist)?;
     let text = joined(alloc, &[head, &lines, b"same "])?;

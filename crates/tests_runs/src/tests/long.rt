@@ -1,4 +1,4 @@
-//! Logs and lists of vectors of more bytes than may be, which no memory of the shelf holds.
+//! Logs and lists of vectors that have more bytes than they may, and that no memory of the shelf holds.
 
 use crate::tests::runs::strings;
 use crate::tests::texts::{AND, ONE};
@@ -14,7 +14,7 @@ struct EndlessShelf {
     endless: bool,
 }
 
-// Written out, it is one step in the proof of each test that lets a shelf go.
+// As for `Left`.
 impl Drop for EndlessShelf {
     fn drop(self) {
         let EndlessShelf {
@@ -62,7 +62,7 @@ impl Shelf for EndlessShelf {
     }
 }
 
-// A run's words, the file that it reads besides, the byte of the endless one, and what is printed.
+// A run's words, the other file that it reads, the byte of the endless one, and what is printed.
 type Case = (
     &'static [&'static str],
     &'static str,

@@ -1,11 +1,12 @@
-//! Netlists that are refused, and the longest.
+//! Netlists that are refused, and the longest netlist.
 
 use crate::tests::runs::FileText::{self, Absent, Any, Is};
 use crate::tests::runs::{joined, left_by, plain};
 use std::alloc::{AllocError, Global};
 use std::test::Fail;
 
-// Whether `gen` over a netlist that is read in large pieces ends with this status, prints this, and leaves such a result.
+// Whether `gen` over a netlist that is read in large pieces ends with this status, prints this, and leaves such a
+// result.
 fn generates(
     alloc: Global,
     netlist: &[u8],
@@ -17,7 +18,7 @@ fn generates(
     Ok(left.ended(status, Is(console.as_bytes())) && left.holds("r", output))
 }
 
-// The longest text that is read, a comment of 16,777,216 bytes, and one byte more.
+// The longest text that is read, a comment of 16,777,216 bytes, and a text of one byte more.
 #[test]
 fn the_longest_netlist(rt: HostRuntime) -> Result<(), Fail> {
     let mut text = vec![in rt.alloc(); b'x'; 16_777_216]?;

@@ -13,7 +13,7 @@ const RANK: &[&str] = &["rank", "d", "l"];
 
 const ALL: &[u8] = b"0 0\n1 0\n2 0\n3 0\n4 0\n5 0\n6 0\nlisted 7 least 0\n";
 
-// No number of the AND answers so: four differ at one pattern.
+// No number of the AND answers so: four numbers differ at one pattern.
 const NEAR: &[u8] = b"0 0\n1 1\n2 0\n3 0\n";
 
 const NEAREST: &[u8] = b"1 1\n3 1\n4 1\n5 1\nlisted 4 least 1\n";
@@ -22,7 +22,7 @@ const SECOND: &[u8] = b"1 1\n3 1\n4 1\n5 1\n0 2\nlisted 5 least 1\n";
 
 const EACH: &[u8] = b"1 1\n3 1\n4 1\n5 1\n0 2\n2 3\n6 3\nlisted 7 least 1\n";
 
-// Logs that are ranked, among them a whole one and two of which nothing was observed, and logs that are refused.
+// Logs that are ranked, a whole one and two without an observed bit among them, and logs that are refused.
 static RANKED: [RankingCase; 12] = [
     (PARTIAL_LOG, RANK, 0, b"4 0\n6 0\nlisted 2 least 0\n"),
     (NEAR, RANK, 0, NEAREST),
@@ -38,7 +38,7 @@ static RANKED: [RankingCase; 12] = [
     (b"0 2\n", RANK, 6, b"log: Syntax at line 1\n"),
 ];
 
-// Whether a log is so ranked by each dictionary of the AND.
+// Whether each dictionary of the AND ranks a log so.
 fn is_ranked(alloc: Global, case: &RankingCase) -> Result<bool, AllocError> {
     let (log, words, status, console) = *case;
     for dict in [ONE, TWO, FULL_ONE, FULL_TWO, SAME_DIFF] {
@@ -64,7 +64,7 @@ const UNSEEN: &[u8] =
 
 const ALL_UNSEEN: &[u8] = b"0 0\n1 0\n2 0\nlisted 3 least 0\n";
 
-// No positions, a dictionary in place of a log, and files that aren't there.
+// No positions, a dictionary in place of a log, and missing files.
 static OTHERS: [Case; 6] = [
     (
         &[("d", UNSEEN), ("l", b"0 -\n1 -\n")],

@@ -1,4 +1,5 @@
-//! Runs over shelves in memory, and what they leave. What a run promises isn't told, so that no test carries it along.
+//! Runs over shelves in memory, and what they leave. No clause here repeats what a run promises, so that no test
+//! carries it along.
 
 use dia_runs::run;
 use diag_shelf::MemoryShelf;
@@ -6,8 +7,8 @@ use std::alloc::{AllocError, Global};
 use std::process::Abort;
 use std::test::Fail;
 
-/// What a file holds, or what is printed: no file; whatever there is; just this; so many bytes from the front of this; or this
-/// at the front, at the end or anywhere.
+/// What a file holds, or what is printed: no file; anything; just this; the given number of bytes from the front of
+/// this; or this at the front, at the end or anywhere.
 #[derive(Clone, Copy)]
 pub(crate) enum FileText<'a> {
     Absent,
@@ -19,7 +20,7 @@ pub(crate) enum FileText<'a> {
     Has(&'a [u8]),
 }
 
-/// Whether a text stands somewhere in another.
+/// Whether `part` occurs somewhere in `text`.
 pub(crate) fn has(text: &[u8], part: &[u8]) -> bool {
     text.windows(part.len().max(1)).any(|window| window == part)
 }
@@ -42,7 +43,7 @@ pub(crate) struct Left {
     shelf: MemoryShelf,
 }
 
-// Written out, it is one step in the proof of each test that lets a shelf go.
+// Written by hand, it is one step in the proof of each test that drops a shelf.
 impl Drop for Left {
     fn drop(self) {
         let Left {
@@ -81,7 +82,7 @@ impl Left {
         }
     }
 
-    /// Whether there is no file under a name, or a part from the front of the one that the other run left.
+    /// Whether there is no file under a name, or it is a beginning of the one that the other run left.
     pub(crate) fn holds_part(&self, other: &Left, name: &str) -> bool {
         match (self.shelf.file(name), other.shelf.file(name)) {
             (None, _) => true,
@@ -90,12 +91,12 @@ impl Left {
         }
     }
 
-    /// What was printed.
+    /// Returns what was printed.
     pub(crate) fn console(&self) -> &[u8] {
         self.shelf.console()
     }
 
-    /// A copy of the file under a name.
+    /// Returns a copy of the file under a name.
     pub(crate) fn copy_of(&self, alloc: Global, name: &str) -> Result<Vec<u8>, Fail> {
         match self.shelf.file(name) {
             Some(bytes) => Ok(bytes.to_vec(alloc)?),
@@ -104,7 +105,7 @@ impl Left {
     }
 }
 
-/// The words of a run.
+/// Returns the words of a run.
 pub(crate) fn strings(alloc: Global, all: &[&str]) -> Result<Vec<String>, AllocError> {
     let mut words = Vec::new(alloc);
     for word in all {
@@ -120,7 +121,8 @@ fn put_all(shelf: &mut MemoryShelf, files: &[(&str, &[u8])]) -> Result<(), Alloc
     Ok(())
 }
 
-/// What a run leaves over a shelf that moves so many bytes at a time (one, for none), fails these calls, and holds these files.
+/// Returns what a run leaves over a shelf that moves `chunk` bytes at a time (one if `chunk` is 0), fails the calls
+/// `failing`, and holds these files.
 pub(crate) fn left_by(
     alloc: Global,
     chunk: usize,
@@ -135,7 +137,7 @@ pub(crate) fn left_by(
     Ok(Left { status, shelf })
 }
 
-/// What a run leaves over a shelf that moves seven bytes at a time, fails no call, and holds these files.
+/// Returns what a run leaves over a shelf that moves seven bytes at a time, fails no call, and holds these files.
 pub(crate) fn plain(
     alloc: Global,
     files: &[(&str, &[u8])],
@@ -144,7 +146,7 @@ pub(crate) fn plain(
     left_by(alloc, 7, &[], files, words)
 }
 
-/// A name, and what stands under it.
+/// A name, and what the file under it holds.
 pub(crate) type File = (&'static str, &'static [u8]);
 
 /// Files that a run is given, its words, the status, what is printed, and a name with what the file under it is like.
@@ -156,14 +158,14 @@ pub(crate) type Case = (
     (&'static str, FileText<'static>),
 );
 
-// Whether a run over a shelf that moves so many bytes at a time leaves what is wanted.
+// Whether a run over a shelf that moves `chunk` bytes at a time leaves what the case says.
 fn leaves(alloc: Global, chunk: usize, case: &Case) -> Result<bool, AllocError> {
     let (files, words, status, console, (name, file)) = *case;
     let left = left_by(alloc, chunk, &[], files, words)?;
     Ok(left.ended(status, console) && left.holds(name, file))
 }
 
-/// Each run over a shelf that moves so many bytes at a time leaves what is wanted.
+/// Checks that each run over a shelf that moves `chunk` bytes at a time leaves what its case says.
 pub(crate) fn all_leave(
     rt: &impl Abort,
     alloc: Global,

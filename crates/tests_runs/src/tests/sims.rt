@@ -40,7 +40,7 @@ fn simulations(rt: HostRuntime) -> Result<(), Fail> {
     Ok(())
 }
 
-// A wire's answers to as many vectors 0.
+// Returns a wire's answers to `count` vectors 0.
 fn lines_at_zero(alloc: Global, count: u32) -> Result<Vec<u8>, AllocError> {
     let mut lines = Vec::new(alloc);
     for number in 0..count {
@@ -53,7 +53,8 @@ fn lines_at_zero(alloc: Global, count: u32) -> Result<Vec<u8>, AllocError> {
 
 const WIRE: &[u8] = b"INPUT(a)\nOUTPUT(z)\nz=BUFF(a)\n";
 
-// Whether a run over a wire and a list, of which a call fails, ends with this status behind the lines of so many vectors.
+// Whether a run over a wire and a list, in which a call fails, ends with this status after the lines of the given
+// number of vectors.
 fn breaks_off(
     alloc: Global,
     list: &[u8],
@@ -67,7 +68,7 @@ fn breaks_off(
     Ok(left.ended(status, Is(&console)))
 }
 
-// A list of as many vectors 0.
+// Returns a list of `count` vectors 0.
 fn zeros(alloc: Global, count: u32) -> Result<Vec<u8>, AllocError> {
     let mut list = Vec::new(alloc);
     for _ in 0..count {
@@ -95,8 +96,8 @@ fn all_break_off(rt: &impl Abort, alloc: Global, list: &[u8]) -> Result<(), Fail
     Ok(())
 }
 
-// The netlist is opened by call 0 and read by calls 1 and 2, and the list by calls 3 to 5; call 6 prints the lines of the first
-// vector, and each later one those of the next, beyond a block of vectors too.
+// The netlist is opened by call 0 and read by calls 1 and 2, and the list by calls 3 to 5; call 6 prints the lines of
+// the first vector, and each later call those of the next, beyond a block of vectors too.
 #[test]
 fn each_failing_print_leaves_the_vectors_before_it(rt: HostRuntime) -> Result<(), Fail> {
     let list = zeros(rt.alloc(), LANES + 1)?;

@@ -15,7 +15,7 @@ fn a_netlist_of_two_cells(rt: HostRuntime) -> Result<(), Fail> {
     Ok(())
 }
 
-// Whether a run of one name for both leaves the result in the place of the netlist, with the same console.
+// Whether a run with one name for both files leaves the result in place of the netlist, with the same console.
 fn replaces(alloc: Global, left: &Left) -> Result<bool, Fail> {
     let output = left.copy_of(alloc, "r")?;
     let again = plain(alloc, &[], &["synth", "8", "r", "r"])?;
@@ -26,7 +26,7 @@ fn replaces(alloc: Global, left: &Left) -> Result<bool, Fail> {
     )
 }
 
-// Whether a run of two names leaves the netlist, and such a result.
+// Whether a run with two names leaves the netlist, and such a result.
 fn is_synthesized(alloc: Global, left: &Left) -> Result<bool, AllocError> {
     let netlist = synth_text(alloc, 8)?;
     Ok(
@@ -52,7 +52,7 @@ fn results_of_a_netlist_by_number(rt: HostRuntime) -> Result<(), Fail> {
     Ok(())
 }
 
-// Whether a run of the same words leaves the same, of so many cells.
+// Whether a run of the same words leaves the same, for the given number of cells.
 fn is_repeated(alloc: Global, cells: &str, left: &Left) -> Result<bool, Fail> {
     let again = plain(alloc, &[], &["synth", cells, "n", "r"])?;
     Ok(

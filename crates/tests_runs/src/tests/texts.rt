@@ -1,4 +1,4 @@
-//! Netlists, and results, dictionaries and a log of some.
+//! Netlists, and results, dictionaries and a log of some of them.
 
 /// An OR of a signal and its complement.
 pub(crate) const TRUTH: &[u8] = b"INPUT(a)\nOUTPUT(z)\nb=NOT(a)\nz=OR(a,b)\n";
@@ -14,10 +14,10 @@ pub(crate) const TWICE: &[u8] = b"INPUT(a)\nOUTPUT(a)\nOUTPUT(a)\n";
 /// An AND gate whose output is shown twice.
 pub(crate) const AND_TWICE: &[u8] = b"INPUT(a)\nINPUT(b)\nOUTPUT(z)\nOUTPUT(z)\nz=AND(a,b)\n";
 
-/// What the AND without a fault doesn't answer to the last pattern.
+/// A log with the last answer wrong: the AND without a fault answers 1 to the last pattern.
 pub(crate) const LOG: &[u8] = b"0 0\n1 0\n2 0\n3 0\n";
 
-/// Two of the patterns of an AND, of which one was observed.
+/// A partial log of two patterns of an AND, one of which was observed.
 pub(crate) const PARTIAL_LOG: &[u8] = b"1 1\n3 x\n";
 
 /// The sum of nine inputs, and the complement of the sum of three sums over them.
@@ -33,11 +33,11 @@ pub(crate) const S27: &[u8] =
 pub(crate) const AND_RESULT: &[u8] =
     b"diatest 1 2 1 7\nbudget 4 64 2000\npattern 00\npattern 10\npattern 01\npattern 11\nsame 3 1 C\nsame 5 1 C\nclass 0 - -\nclass 1 0 0\nclass 2 0 1\nclass 3 0 2\nclass 4 0 3\nmember 0 0 rep\nmember 1 4 rep\nmember 2 3 rep\nmember 3 4 equal\nmember 4 2 rep\nmember 5 4 equal\nmember 6 1 rep\nend\n";
 
-/// Which pattern of it to ask next.
+/// The adaptive plan of the AND's result.
 pub(crate) const AND_PLAN: &[u8] =
     b"adapt 1 1 4 5\nask 1 2\non 0\nask 2 2\non 0\nask 3 2\non 1\nclass 0\non 0\nclass 4\non 1\nclass 3\non 1\nask 0 2\non 1\nclass 1\non 0\nclass 2\nend\n";
 
-/// What is left of it where the patterns are left out that its classes don't need, which is the first one.
+/// What is left of the AND's result without the first pattern, the only one that its classes don't need.
 pub(crate) const AND_COMPACTED: &[u8] =
     b"diatest 1 2 1 7\nbudget 4 64 2000\npattern 10\npattern 01\npattern 11\nsame 3 1 C\nsame 5 1 C\nclass 0 - -\nclass 1 0 0\nclass 2 0 1\nclass 3 1 1\nclass 4 0 2\nmember 0 0 rep\nmember 1 4 rep\nmember 2 2 rep\nmember 3 4 equal\nmember 4 1 rep\nmember 5 4 equal\nmember 6 3 rep\nend\n";
 
@@ -78,8 +78,8 @@ pub(crate) const FULL_TWO: &[u8] =
 pub(crate) const SAME_DIFF: &[u8] =
     b"DIAT\x00\x02\x03\x00\x00\x00\x01\x00\x00\x00\x04\x00\x00\x00\x07\x00\x00\x00\x05\x00\x00\x00\x80\x00\x00\x00\x00\x00\x00\x00\x01\x00\x00\x00\x02\x00\x00\x00\x01\x00\x00\x00\x03\x00\x00\x00\x01\x00\x00\x00\x04\x00\x10\x20\x40\xe0";
 
-/// The same/different dictionary of the AND that is shown twice: with the baseline 11 in place of the fault-free 00 at the second
-/// pattern it keeps two pairs more apart than the pass/fail one.
+/// The same/different dictionary of the AND that is shown twice. With the baseline 11 in place of the fault-free 00 at
+/// the second pattern it keeps two more pairs apart than the pass/fail one.
 pub(crate) const AND_TWICE_CHOSEN: &[u8] =
     b"DIAT\x00\x02\x03\x00\x00\x00\x02\x00\x00\x00\x04\x00\x00\x00\x0b\x00\x00\x00\x06\x00\xc0\x00\xc0\x00\x00\x00\x00\x00\x00\x00\x01\x00\x00\x00\x02\x00\x00\x00\x01\x00\x00\x00\x03\x00\x00\x00\x01\x00\x00\x00\x04\x00\x00\x00\x01\x00\x00\x00\x05\x00\x00\x00\x01\x00\x00\x00\x05\x40P\x60\x00\xa0\xe0";
 

@@ -9,7 +9,7 @@ use std::test::Fail;
 
 const LIST: &[u8] = b"01111\n10010\n10001\n00100\n01011\n10010\n10011\n11111\n";
 
-// The list from its end.
+// The list in reverse.
 const REVERSED: &[u8] = b"11111\n10011\n10010\n01011\n00100\n10001\n10010\n01111\n";
 
 // What `grade` makes of the list. Vector 5 is vector 1 again, and vectors 3 and 6 split no class.
@@ -197,13 +197,14 @@ static NOT_MADE: [Case; 10] = [
     ),
 ];
 
-// Refused lists and netlists, and absent files: no result is made.
+// Refused lists and netlists, and missing files: no result is made.
 #[test]
 fn results_that_are_not_made(rt: HostRuntime) -> Result<(), Fail> {
     all_leave(&rt, rt.alloc(), 7, &NOT_MADE)
 }
 
-// A result from this list for c17 is accepted, begins with these kept patterns, and its run printed this.
+// Checks that a result from this list for c17 is accepted and begins with these kept patterns, and that its run printed
+// this.
 fn tops_up(
     rt: &impl Abort,
     alloc: Global,
@@ -218,7 +219,7 @@ fn tops_up(
     Ok(())
 }
 
-// `check` accepts the result, with the same counts.
+// Whether `check` accepts the result, as one of 35 numbers.
 fn is_accepted_as_topped(alloc: Global, left: &Left) -> Result<bool, Fail> {
     let file = left.copy_of(alloc, "r")?;
     let files = [("n", C17), ("r", file.as_slice())];
@@ -238,7 +239,7 @@ fn topped_up_results_are_whole(rt: HostRuntime) -> Result<(), Fail> {
     tops_up(&rt, rt.alloc(), b"", none, Any)
 }
 
-// The first vector so many times, and then the four others that are kept.
+// Returns a list of the first vector `count` times, and then the four others that are kept.
 fn long_list(alloc: Global, count: usize) -> Result<Vec<u8>, AllocError> {
     let mut list = Vec::new(alloc);
     for _number in 0..count {
@@ -261,7 +262,7 @@ fn lists_longer_than_a_block(rt: HostRuntime) -> Result<(), Fail> {
     Ok(())
 }
 
-// What was kept of nothing is what `gen` keeps of no block.
+// What is kept of an empty list is what `gen` keeps of no block.
 #[test]
 fn nothing_to_grade_is_no_block(rt: HostRuntime) -> Result<(), Fail> {
     let graded = plain(rt.alloc(), &[("n", C17), ("v", b"")], GRADE)?;

@@ -57,7 +57,7 @@ static WRONG: [&[&str]; 49] = [
     &["topup", "n", "v", "r", "s"],
 ];
 
-// Whether a run says so, and makes no file.
+// Whether a run says that the words aren't understood, and makes no file.
 fn is_not_understood(alloc: Global, words: &[&str]) -> Result<bool, AllocError> {
     let left = plain(alloc, &[], words)?;
     Ok(
@@ -75,7 +75,7 @@ fn words_that_are_not_understood(rt: HostRuntime) -> Result<(), Fail> {
     Ok(())
 }
 
-// Options stand before, between and behind the names, and numbers may have zeros or a sign before them.
+// Options come before, between and after the names, and numbers may begin with zeros or a sign.
 static TAKEN: [(&[&str], &[u8]); 9] = [
     (&["gen", "--cubes", "8", "n", "r"], b"budget 4 8 2000\n"),
     (&["gen", "n", "r", "--cubes", "8"], b"budget 4 8 2000\n"),

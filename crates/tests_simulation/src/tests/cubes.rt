@@ -21,7 +21,7 @@ const SAME: PairState = AllSame;
 // A circuit, two faults of it, and the states of the cube of all vectors, of source 0 at 0, and of source 0 at 1.
 type Cubes = (CircuitParts<'static>, Fault, Fault, [PairState; 3]);
 
-// Two pins that read one line choose by themselves, those of an XOR and the data pins of a multiplexer.
+// Two pins that read one line choose independently: those of an XOR, and the data pins of a multiplexer.
 const CUBES: &[Cubes] = &[
     (NOT_AND_OR, Free, Stuck(Stem(2), true), [OPEN, SAME, SAME]),
     (XOR_OF_ONE, Free, Stuck(Stem(1), false), [OPEN, SAME, SAME]),
@@ -47,7 +47,7 @@ const CUBES: &[Cubes] = &[
     ),
 ];
 
-// The state where source 0 has a value, which it has no longer behind the call.
+// Returns the state with source 0 at `bit`. After the call source 0 is free again.
 fn state_at(sim: &mut PairSim, bit: bool) -> PairState
     requires source { 0 < sim.old.circuit.sources }
     requires free { sim.old.cube ≡ [] }
@@ -60,7 +60,7 @@ fn state_at(sim: &mut PairSim, bit: bool) -> PairState
     state
 }
 
-// Whether a simulation shows these states. Undone, the first one comes again.
+// Returns whether a simulation shows these states, and the first one again after source 0 is free.
 fn shows(sim: &mut PairSim, states: [PairState; 3]) -> bool
     requires source { 0 < sim.old.circuit.sources }
     requires free { sim.old.cube ≡ [] }
@@ -72,7 +72,7 @@ fn shows(sim: &mut PairSim, states: [PairState; 3]) -> bool
     first && second && third && sim.state() == all
 }
 
-// Whether these are the states of two faults of a circuit.
+// Returns whether two faults of a circuit have these states.
 fn has_states(
     alloc: Global,
     circuit: &Circuit,
@@ -101,8 +101,8 @@ fn states_of_cubes(rt: HostRuntime) -> Result<(), Fail> {
     Ok(())
 }
 
-// Line 3 is the AND of sources 0 and 1, line 4 the OR of it and source 2, line 5 the NOT of that, line 6 the constant 1,
-// and line 7 the AND of lines 5 and 6. Lines 3, 4 and 7 and source 0 are shown.
+// Line 3 is the AND of sources 0 and 1, line 4 the OR of it and source 2, line 5 the NOT of that, line 6 the constant
+// 1, and line 7 the AND of lines 5 and 6. Lines 3, 4 and 7 and source 0 are shown.
 const CHAIN: CircuitParts<'static> = CircuitParts {
     sources: 3,
     gates: &[
@@ -118,7 +118,7 @@ const CHAIN: CircuitParts<'static> = CircuitParts {
 // Two faults, how many positions they reach, and the states of the cube of all vectors and of source 0 at 1.
 type Pair = (Fault, Fault, usize, [PairState; 2]);
 
-// From a pair that changes much of the circuit to one that changes a position alone, and back.
+// From a pair that changes much of the circuit to pairs that change one position alone or nothing, and back.
 const PAIRS: [Pair; 8] = [
     (Free, Stuck(Stem(0), false), 4, [OPEN, Apart(3)]),
     (Stuck(Position(1), true), Free, 1, [OPEN, OPEN]),
@@ -140,7 +140,7 @@ const PAIRS: [Pair; 8] = [
     (Free, Stuck(Stem(0), false), 4, [OPEN, Apart(3)]),
 ];
 
-// Whether two simulations reach the same positions, so many, and are in the same state, in this one.
+// Returns whether two simulations reach the same positions, `reached` of them, and are both in `state`.
 fn stand_alike(sim: &PairSim, other: &PairSim, reached: usize, state: PairState) -> bool {
     sim.reached() == other.reached()
         && sim.reached().len() == reached
@@ -148,7 +148,7 @@ fn stand_alike(sim: &PairSim, other: &PairSim, reached: usize, state: PairState)
         && other.state() == state
 }
 
-// Whether they do for the cube of all vectors, and for source 0 at 1, where they are left.
+// Returns whether `stand_alike` holds for the cube of all vectors, and for source 0 at 1. Source 0 stays at 1.
 fn go_alike(sim: &mut PairSim, other: &mut PairSim, reached: usize, states: [PairState; 2]) -> bool
     requires source { 0 < sim.old.circuit.sources }
     requires circuit { other.old.circuit ≡ sim.old.circuit }
@@ -162,7 +162,7 @@ fn go_alike(sim: &mut PairSim, other: &mut PairSim, reached: usize, states: [Pai
     first && stand_alike(sim, other, reached, at_one)
 }
 
-// Whether a simulation that is restarted for a pair says what a new one says, and what is wanted.
+// Returns whether a simulation that is restarted for a pair says what a new one says, and what the pair should give.
 fn restarts(alloc: Global, sim: &mut PairSim, case: &Pair) -> Result<bool, Fail> {
     let (f, g, reached, states) = *case;
     let circuit = sim.circuit();
@@ -174,7 +174,7 @@ fn restarts(alloc: Global, sim: &mut PairSim, case: &Pair) -> Result<bool, Fail>
     Ok(go_alike(sim, &mut other, reached, states))
 }
 
-// The first pair, if any, of which a simulation that is restarted for one after another says something else.
+// Returns the first pair, if any, of which a simulation that is restarted for one pair after another says otherwise.
 fn first_wrong(alloc: Global, sim: &mut PairSim) -> Result<Option<usize>, Fail> {
     for (at, case) in PAIRS.iter().enumerate() {
         if !restarts(alloc, sim, case)? {
@@ -196,7 +196,7 @@ fn one_simulation_for_many_pairs(rt: HostRuntime) -> Result<(), Fail> {
     Ok(())
 }
 
-// Whether an empty tree has these tokens once they are pushed.
+// Returns whether an empty tree has these tokens after they are pushed.
 fn takes(tree: &mut Tree, tokens: &[Token]) -> Result<bool, Fail> {
     for token in tokens {
         tree.push(*token)?;

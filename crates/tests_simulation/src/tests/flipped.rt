@@ -1,4 +1,4 @@
-//! Small circuits of which a line or a position is turned in some lanes.
+//! Small circuits with a line or a position turned in some lanes.
 
 ghost use Rattle.std.specs.Prelude.{◌≡◌, IsSome, IsTrue, ◌↔◌};
 ghost use Rattle.fault_heads.specs.Turned.{IsHeadOf};
@@ -12,8 +12,8 @@ use std::alloc::{AllocError, Global};
 use std::test::Fail;
 use word_sim::{Block, GoodSim, Lanes};
 
-// The sources 0 and 1; 2 is the XOR of source 0 and itself, 3 the AND of source 0 twice and source 1, and 4 the OR of both.
-// The XOR is shown first, then the AND and then the OR.
+// The sources 0 and 1; 2 is the XOR of source 0 and itself, 3 the AND of source 0 twice and source 1, and 4 the OR of
+// both. The XOR is shown first, then the AND and then the OR.
 const TWICE: CircuitParts<'static> = CircuitParts {
     sources: 2,
     gates: &[
@@ -24,7 +24,7 @@ const TWICE: CircuitParts<'static> = CircuitParts {
     positions: &[2, 3, 4],
 };
 
-// The lanes in which a head is turned: all, none, or those in which a line has 1.
+// The lanes in which a head is to be turned: all, none, or those in which a line has 1.
 #[derive(Clone, Copy)]
 enum Asked {
     Every,
@@ -32,10 +32,10 @@ enum Asked {
     Where(u32),
 }
 
-// A head, where it is turned, and in which of the first eight lanes that shows at each position.
+// A head, the lanes in which it is turned, and in which of the first eight lanes that shows at each position.
 type Case = (Head, Asked, [&'static [u8; 8]; 3]);
 
-// Whether the circuit has the head.
+// Returns whether the circuit has the head.
 fn has_head(circuit: &Circuit, head: Head) -> bool
     ensures { IsTrue result ↔ IsHeadOf circuit.now head }
 {
@@ -45,7 +45,7 @@ fn has_head(circuit: &Circuit, head: Head) -> bool
     }
 }
 
-// These lanes, unless they are those of a line that the circuit hasn't.
+// Returns these lanes, or none if they are those of a line that the circuit doesn't have.
 fn asked_lanes(good: &GoodSim, asked: Asked) -> Option<Lanes> {
     match asked {
         Asked::Every => Some(Lanes::all(true)),
@@ -55,7 +55,7 @@ fn asked_lanes(good: &GoodSim, asked: Asked) -> Option<Lanes> {
     }
 }
 
-// Whether the first eight lanes differ so at the positions, after another head was turned.
+// Returns whether the first eight lanes differ at the positions as the case says, after another head was turned.
 fn differs_so(alloc: Global, good: &GoodSim, case: &Case) -> Result<bool, AllocError>
     requires { IsSome good.now.ran }
 {
@@ -74,7 +74,7 @@ fn differs_so(alloc: Global, good: &GoodSim, case: &Case) -> Result<bool, AllocE
     Ok(shows_all(&sim, expected))
 }
 
-// The number of the first case in which the first eight lanes differ otherwise at the positions.
+// Returns the number of the first case, if any, in which the first eight lanes differ otherwise than the case says.
 fn first_wrong(alloc: Global, good: &GoodSim, cases: &[Case]) -> Result<Option<usize>, Fail>
     requires { IsSome good.now.ran }
 {
@@ -86,7 +86,7 @@ fn first_wrong(alloc: Global, good: &GoodSim, cases: &[Case]) -> Result<Option<u
     Ok(None)
 }
 
-// The number of the first such case of a circuit at the vectors of a block.
+// Returns what `first_wrong` does for a circuit at the vectors of a block.
 fn first_wrong_at(
     alloc: Global,
     circuit: &Circuit,
@@ -100,7 +100,7 @@ fn first_wrong_at(
     first_wrong(alloc, &good, cases)
 }
 
-// The same for the circuit of these parts.
+// Returns what `first_wrong` does for the circuit of these parts.
 fn first_wrong_in(
     alloc: Global,
     parts: CircuitParts,
@@ -113,7 +113,8 @@ fn first_wrong_in(
     first_wrong_at(alloc, &circuit, block, cases)
 }
 
-// Only four lanes have a vector: the others are asked and don't differ. The differences are those of the AND, the OR and the XOR.
+// Only four lanes have a vector: the head is to be turned in the others too, and they don't differ. The differences are
+// those of the AND, the OR and the XOR.
 const PARITY_CASES: &[Case] = &[
     (
         Line(0),
@@ -139,7 +140,8 @@ fn parity_with_turned_heads(rt: HostRuntime) -> Result<(), Fail> {
     Ok(())
 }
 
-// A select, a chosen pin, a constant and what is chosen. The differences are those of the select, the chosen bit and the XOR.
+// A select, a chosen pin, a constant and what is chosen. The differences are those of the select, the chosen bit and
+// the XOR.
 const CHOICE_CASES: &[Case] = &[
     (Line(0), Asked::Every, [ALL, b"00111100", b"00111100"]),
     (

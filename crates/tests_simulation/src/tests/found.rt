@@ -14,7 +14,7 @@ use sample_circuits::{
 use std::alloc::Global;
 use std::test::Fail;
 
-// What is to be found: a vector, a tree without an open leaf, or one with an open leaf.
+// What is to be found: a vector, a tree without an open leaf, or a tree with an open leaf.
 #[derive(Clone, Copy)]
 enum Wanted {
     Vector,
@@ -22,7 +22,7 @@ enum Wanted {
     Spent,
 }
 
-// Two faults of a circuit, so many leaves, and what is to be found.
+// Two faults of a circuit, the number of leaves, and what is to be found.
 #[derive(Clone, Copy)]
 struct Case {
     parts: CircuitParts<'static>,
@@ -32,8 +32,9 @@ struct Case {
     wanted: Wanted,
 }
 
-// Each is all that these faults and so many leaves allow. Faults that differ have a vector where there are more leaves than
-// vectors; equal ones have a covered tree then, and a spent one where a single leaf doesn't decide.
+// In each case these faults and this number of leaves allow only what is to be found. Faults that differ have a vector
+// if there are more leaves than vectors; equal faults have a covered tree then, and a spent one if a single leaf
+// doesn't decide.
 const CASES: &[Case] = &[
     Case {
         parts: NOT_AND_OR,
@@ -93,7 +94,7 @@ const CASES: &[Case] = &[
     },
 ];
 
-// How many tokens of a tree are this one.
+// Returns how many tokens of a tree are `token`.
 fn count(tree: &Tree, token: Token) -> usize {
     tree.as_slice()
         .iter()
@@ -101,17 +102,17 @@ fn count(tree: &Tree, token: Token) -> usize {
         .count()
 }
 
-// Whether a tree has no open leaf, and at most so many closed ones.
+// Returns whether a tree has no open leaf, and at most `leaves` closed ones.
 fn is_covered(tree: &Tree, leaves: u32) -> bool {
     count(tree, Token::Rest) == 0 && count(tree, Token::Closed) <= leaves as usize
 }
 
-// Whether a tree has an open leaf, and just so many closed ones.
+// Returns whether a tree has an open leaf, and exactly `leaves` closed ones.
 fn is_spent(tree: &Tree, leaves: u32) -> bool {
     count(tree, Token::Rest) > 0 && count(tree, Token::Closed) == leaves as usize
 }
 
-// Whether a vector has a bit for each source, and the two faults of the case answer differently to it.
+// Returns whether a vector has a bit for each source, and the two faults of the case answer differently to it.
 fn is_apart(alloc: Global, circuit: &Circuit, case: &Case, v: &Vector) -> Result<bool, Fail>
     requires first { IsFaultOf circuit.now case.now.f }
     requires second { IsFaultOf circuit.now case.now.g }
@@ -124,7 +125,7 @@ fn is_apart(alloc: Global, circuit: &Circuit, case: &Case, v: &Vector) -> Result
     Ok(first.as_str() != second.as_str())
 }
 
-// Whether a search finds what is to be found.
+// Returns whether a search finds what is to be found.
 fn finds(alloc: Global, circuit: &Circuit, case: &Case) -> Result<bool, Fail>
     requires first { IsFaultOf circuit.now case.now.f }
     requires second { IsFaultOf circuit.now case.now.g }
@@ -142,7 +143,7 @@ fn finds(alloc: Global, circuit: &Circuit, case: &Case) -> Result<bool, Fail>
     }
 }
 
-// The same for the circuit of the case.
+// Returns whether a search in the circuit of the case finds what is to be found.
 fn is_found(alloc: Global, case: &Case) -> Result<bool, Fail> {
     let circuit = circuit(alloc, case.parts)?;
     if case.leaves == 0 || !stands(&circuit, case.f) || !stands(&circuit, case.g) {

@@ -23,7 +23,8 @@ pub(super) const PARITY: CircuitParts<'static> = CircuitParts {
     positions: &[3, 4, 2],
 };
 
-// The sources s, a and b; 3 is the constant 1, 4 is b where s is 1 and else a, and 5 is the XOR of the constant and of that.
+// The sources s, a and b; 3 is the constant 1, 4 is b if s is 1 and else a, and 5 is the XOR of the constant and of
+// that.
 // Shown are s, the chosen bit and the XOR.
 pub(super) const CHOICE: CircuitParts<'static> = CircuitParts {
     sources: 3,
@@ -35,7 +36,7 @@ pub(super) const CHOICE: CircuitParts<'static> = CircuitParts {
     positions: &[0, 4, 5],
 };
 
-// The vectors 00, 10, 01 and 11.
+// Returns a block of the vectors 00, 10, 01 and 11.
 pub(super) fn four_vectors(alloc: Global) -> Result<Block, AllocError>
     ensures { IfOk result (λ block. block.sources ≡ 2) }
 {
@@ -52,7 +53,7 @@ pub(super) fn four_vectors(alloc: Global) -> Result<Block, AllocError>
     Ok(block)
 }
 
-// The vectors 000, 100, 010, 110, 001, 101, 011 and 111, and these again and again.
+// Returns a block of the vectors 000, 100, 010, 110, 001, 101, 011 and 111, and these again and again.
 pub(super) fn counted_vectors(alloc: Global) -> Result<Block, AllocError>
     ensures { IfOk result (λ block. block.sources ≡ 3) }
 {
@@ -64,7 +65,7 @@ pub(super) fn counted_vectors(alloc: Global) -> Result<Block, AllocError>
 // A fault, and in which of the first eight lanes it shows at each position.
 type Case = (Fault, [&'static [u8; 8]; 3]);
 
-// The first fault under which the first eight lanes differ otherwise at the positions.
+// Returns the first fault, if any, under which the first eight lanes differ otherwise than its case says.
 fn first_wrong(alloc: Global, good: &GoodSim, cases: &[Case]) -> Result<Option<Fault>, Fail>
     requires { IsSome good.now.ran }
 {
@@ -76,7 +77,7 @@ fn first_wrong(alloc: Global, good: &GoodSim, cases: &[Case]) -> Result<Option<F
     Ok(None)
 }
 
-// The first such fault of a circuit at the vectors of a block.
+// Returns what `first_wrong` does for a circuit at the vectors of a block.
 fn first_wrong_at(
     alloc: Global,
     circuit: &Circuit,
@@ -90,7 +91,7 @@ fn first_wrong_at(
     first_wrong(alloc, &good, cases)
 }
 
-// The same for the circuit of these parts.
+// Returns what `first_wrong` does for the circuit of these parts.
 fn first_wrong_in(
     alloc: Global,
     parts: CircuitParts,
@@ -103,7 +104,7 @@ fn first_wrong_in(
     first_wrong_at(alloc, &circuit, block, cases)
 }
 
-// Whether the first eight lanes differ so at the positions, after another fault was injected.
+// Returns whether the first eight lanes differ at the positions as `expected` says, after another fault was injected.
 fn differs_so(
     alloc: Global,
     good: &GoodSim,
@@ -123,14 +124,15 @@ fn differs_so(
     Ok(shows_all(&sim, expected))
 }
 
-// Whether the first eight lanes differ so at the positions.
+// Returns whether the first eight lanes differ at the positions as `expected` says.
 pub(super) fn shows_all(sim: &FaultSim, expected: &[&[u8; 8]; 3]) -> bool
     requires { length sim.now.circuit.positions ≡ 3 }
 {
     shows_so(sim, 0, expected[0]) && shows_so(sim, 1, expected[1]) && shows_so(sim, 2, expected[2])
 }
 
-// Whether the first eight lanes differ so at a position, and it is listed where one does.
+// Returns whether the first eight lanes differ at `position` as `expected` says, and the position is listed exactly if
+// one of them does.
 fn shows_so(sim: &FaultSim, position: u32, expected: &[u8; 8]) -> bool
     requires { position < length sim.now.circuit.positions }
 {
@@ -191,8 +193,8 @@ const PIN_OF_A: &[u8; 8] = b"10001000";
 
 const PIN_OF_B: &[u8; 8] = b"00000101";
 
-// Selects, chosen pins and constants. The differences are those of the select, the chosen bit and the XOR; a stuck select pin
-// leaves the select itself as it is.
+// Selects, chosen pins and constants. The differences are those of the select, the chosen bit and the XOR; a stuck
+// select pin leaves the select itself as it is.
 const CHOICE_CASES: &[Case] = &[
     (Stuck(Pin(4, 0), true), [NONE, CHOSEN_HIGH, CHOSEN_HIGH]),
     (Stuck(Pin(4, 0), false), [NONE, CHOSEN_LOW, CHOSEN_LOW]),
@@ -217,7 +219,7 @@ fn choice_under_faults(rt: HostRuntime) -> Result<(), Fail> {
     Ok(())
 }
 
-// Whether all lanes of the first word differ at position 2, and none of the others there or anywhere.
+// Returns whether all lanes of the first word differ at position 2, and no other lane differs at any position.
 fn differs_in_first_word(sim: &FaultSim) -> bool
     requires { 2 < length sim.now.circuit.positions }
 {
@@ -229,7 +231,7 @@ fn differs_in_first_word(sim: &FaultSim) -> bool
     sim.differs(2).word(0) == u64::MAX
 }
 
-// Whether it is so for a constant 1 that is stuck at 0.
+// Returns what `differs_in_first_word` does for line 3, a constant 1, stuck at 0.
 fn constant_differs_so(alloc: Global, good: &GoodSim) -> Result<bool, AllocError>
     requires { IsSome good.now.ran }
 {
@@ -243,7 +245,7 @@ fn constant_differs_so(alloc: Global, good: &GoodSim) -> Result<bool, AllocError
     Ok(differs_in_first_word(&sim))
 }
 
-// Whether it is so at the vectors of a block.
+// Returns what `constant_differs_so` does at the vectors of a block.
 fn constant_differs(alloc: Global, circuit: &Circuit, block: &Block) -> Result<bool, AllocError>
     requires { block.now.sources ≡ circuit.now.sources }
 {
@@ -252,7 +254,7 @@ fn constant_differs(alloc: Global, circuit: &Circuit, block: &Block) -> Result<b
     constant_differs_so(alloc, &good)
 }
 
-// The word of a position in which each lane differs that has a vector, and those in which no lane has one.
+// The lanes of the first word have a vector and differ at a position; the lanes of the other words have none.
 #[test]
 fn lanes_without_a_vector_do_not_differ(rt: HostRuntime) -> Result<(), Fail> {
     let block = counted_vectors(rt.alloc())?;

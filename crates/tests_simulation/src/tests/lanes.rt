@@ -13,7 +13,7 @@ use std::alloc::{AllocError, Global};
 use std::test::Fail;
 use word_sim::{Block, GoodSim, LANES, Stream};
 
-// Whether a lane has a vector, and it has these bits.
+// Returns whether a lane has a vector with these bits.
 fn has(block: &Block, lane: u32, bits: &[bool]) -> Result<bool, AllocError> {
     if lane >= block.live() {
         return Ok(false);
@@ -33,7 +33,7 @@ fn is_vector(v: &Bits, bits: &[bool]) -> bool {
     true
 }
 
-// Whether these lanes have these vectors.
+// Returns whether these lanes have these vectors.
 fn has_all(block: &Block, vectors: &[(u32, &[bool])]) -> Result<bool, AllocError> {
     for (lane, bits) in vectors {
         if !has(block, *lane, bits)? {
@@ -50,7 +50,7 @@ fn first_word(rt: HostRuntime) -> Result<(), Fail> {
     Ok(())
 }
 
-// Whether the first block of the stream, which is put in an empty one, has these vectors.
+// Returns whether an empty block has these vectors after it is filled with the first block of the stream.
 fn begins_with(block: &mut Block, vectors: &[(u32, &[bool])]) -> Result<bool, AllocError>
     requires { block.old.vectors ≡ [] }
 {
@@ -92,7 +92,7 @@ fn has_bit(v: &Bits, source: usize, bit: bool) -> bool {
     source < v.len() && v.get(source) == bit
 }
 
-// Whether a source has the binary digits of a word in the 64 lanes from the first one on.
+// Returns whether a source has the binary digits of `word` in the 64 lanes starting at `first`.
 fn has_word(block: &Block, first: u32, source: usize, word: u64) -> Result<bool, AllocError> {
     if block.live() < 64 || first > block.live() - 64 {
         return Ok(false);
@@ -105,13 +105,13 @@ fn has_word(block: &Block, first: u32, source: usize, word: u64) -> Result<bool,
     Ok(true)
 }
 
-// Whether two sources have the next two words of the generator in the 64 lanes from the first one on.
+// Returns whether two sources have the next two words of the generator in the 64 lanes starting at `first`.
 fn has_next_words(block: &Block, first: u32, rng: &mut SplitMix64) -> Result<bool, AllocError> {
     let words = [rng.next_word(), rng.next_word()];
     Ok(has_word(block, first, 0, words[0])? && has_word(block, first, 1, words[1])?)
 }
 
-// A stream of two sources of which the first blocks stand in a block, as many as asked or as it takes.
+// Returns a stream of two sources after `block` was filled with its first blocks: `left`, or as many as it takes.
 fn begun(left: u32, block: &mut Block) -> Stream
     requires left { 1 ≤ left }
     requires empty { block.old.vectors ≡ [] }
@@ -124,7 +124,7 @@ fn begun(left: u32, block: &mut Block) -> Stream
     stream
 }
 
-// Whether a block has the first four blocks of the stream of two sources.
+// Returns whether a block has the first four blocks of the stream of two sources.
 fn has_four(block: &Block, rng: &mut SplitMix64) -> Result<bool, AllocError> {
     if block.live() != 256
         || !has_word(block, 0, 0, 0xaaaa_aaaa_aaaa_aaaa)?
@@ -140,8 +140,8 @@ fn has_four(block: &Block, rng: &mut SplitMix64) -> Result<bool, AllocError> {
     Ok(true)
 }
 
-// Whether an empty block gets five blocks of the stream in two fills: four in the first, and one in the second, which leaves
-// the lanes of three words without a vector.
+// Returns whether an empty block gets five blocks of the stream in two fills: four in the first, and one in the second,
+// which leaves the lanes of three words without a vector.
 fn has_five(block: &mut Block) -> Result<bool, AllocError>
     requires empty { block.old.vectors ≡ [] }
     requires sources { block.old.sources ≡ 2 }
@@ -165,7 +165,7 @@ fn five_blocks_in_two_fills(rt: HostRuntime) -> Result<(), Fail> {
     Ok(())
 }
 
-// Whether only the lanes of the first word are live.
+// Returns whether only the lanes of the first word are live.
 fn first_word_lives(sim: &GoodSim) -> bool {
     for at in 1..LANES / 64 {
         if sim.live().word(at) != 0 {
@@ -175,7 +175,7 @@ fn first_word_lives(sim: &GoodSim) -> bool {
     sim.live().word(0) == u64::MAX
 }
 
-// The simulation of a circuit at the vectors of a block.
+// Returns the simulation of a circuit at the vectors of a block.
 fn simulated<'a>(
     alloc: Global,
     circuit: &'a Circuit,
@@ -189,7 +189,7 @@ fn simulated<'a>(
     Ok(sim)
 }
 
-// A block that had 256 vectors, and then has 64.
+// Returns a block that had 256 vectors, and then has 64.
 fn refilled(alloc: Global) -> Result<Block, AllocError>
     ensures { IfOk result (λ block. block.sources ≡ 2) }
 {
@@ -200,7 +200,7 @@ fn refilled(alloc: Global) -> Result<Block, AllocError>
     Ok(block)
 }
 
-// Of a block of 64 vectors the lanes of the other words aren't live.
+// Returns whether only the lanes of the first word are live after a block was run.
 fn leaves_lanes(alloc: Global, circuit: &Circuit, block: &Block) -> Result<bool, Fail>
     requires { block.now.sources ≡ circuit.now.sources }
 {
@@ -216,7 +216,7 @@ fn lanes_without_a_vector(rt: HostRuntime) -> Result<(), Fail> {
     Ok(())
 }
 
-// The vectors 01 and 11.
+// Returns a block of the vectors 01 and 11.
 fn two_pushed(alloc: Global) -> Result<Block, AllocError> {
     let mut v = Bits::zeros(alloc, 2)?;
     let mut block = Block::new(alloc, 2)?;
@@ -227,7 +227,7 @@ fn two_pushed(alloc: Global) -> Result<Block, AllocError> {
     Ok(block)
 }
 
-// Whether a block has these two vectors, and none after it is cleared.
+// Returns whether a block has the vectors 01 and 11, and none after it is cleared.
 fn has_pushed(block: &mut Block) -> Result<bool, AllocError> {
     if block.live() != 2 || !has_all(block, &[(0, &[false, true]), (1, &[true, true])])? {
         return Ok(false);
@@ -243,7 +243,7 @@ fn pushed_vectors(rt: HostRuntime) -> Result<(), Fail> {
     Ok(())
 }
 
-// Whether line 3 has these values in the first eight lanes.
+// Returns whether line 3 has these values in the first eight lanes.
 fn shows(sim: &GoodSim, expected: &[u8; 8]) -> bool
     requires line { 3 < line_count sim.now.circuit }
     requires lanes { 8 ≤ length (vectors_of sim.now) }
@@ -256,7 +256,7 @@ fn shows(sim: &GoodSim, expected: &[u8; 8]) -> bool
     true
 }
 
-// Whether line 3 of a circuit has these values at the first eight vectors of a block.
+// Returns whether line 3 of a circuit has these values at the first eight vectors of a block.
 fn line_shows(
     alloc: Global,
     circuit: &Circuit,
@@ -270,7 +270,7 @@ fn line_shows(
     Ok(circuit.lines() > 3 && shows(&sim, expected))
 }
 
-// Whether a gate over some of three sources has these values there.
+// Returns whether a gate over some of three sources has these values at the first eight vectors of a block.
 fn gate_shows(
     alloc: Global,
     block: &Block,
@@ -305,7 +305,7 @@ const GATES: &[(Kind, &[u32], &[u8; 8])] = &[
     (Kind::Const1, &[], b"11111111"),
 ];
 
-// The first kind of gate that has other values at the vectors of a block.
+// Returns the first kind of gate, if any, that has other values at the vectors of a block.
 fn first_other(alloc: Global, block: &Block) -> Result<Option<Kind>, Fail>
     requires { block.now.sources ≡ 3 }
 {
@@ -328,14 +328,14 @@ fn gates_of_each_kind(rt: HostRuntime) -> Result<(), Fail> {
     Ok(())
 }
 
-// A NOT of the NAND that stands behind it, over two sources.
+// A NOT of the NAND that comes after it, over two sources.
 const NOT_FIRST: CircuitParts<'static> = CircuitParts {
     sources: 2,
     gates: &[(Kind::Not, &[3]), (Kind::Nand, &[0, 1])],
     positions: &[],
 };
 
-// The vectors 00 and 11.
+// Returns a block of the vectors 00 and 11.
 fn both_or_none(alloc: Global) -> Result<Block, AllocError>
     ensures sources { IfOk result (λ block. block.sources ≡ 2) }
     ensures vectors { IfOk result (λ block. length block.vectors ≡ 2) }
@@ -349,7 +349,7 @@ fn both_or_none(alloc: Global) -> Result<Block, AllocError>
     Ok(block)
 }
 
-// Whether the NOT and the NAND have their values in the lanes of two vectors, and no other lane is live.
+// Returns whether the NOT and the NAND have their values in the lanes of two vectors, and no other lane is live.
 fn are_in_order(sim: &GoodSim) -> bool
     requires lines { 3 < line_count sim.now.circuit }
     requires lanes { 2 ≤ length (vectors_of sim.now) }
@@ -361,7 +361,7 @@ fn are_in_order(sim: &GoodSim) -> bool
     nand.get(0) && !nand.get(1) && live.get(1) && !live.get(2)
 }
 
-// Whether they have at these vectors.
+// Returns what `are_in_order` does for a circuit at the vectors of a block.
 fn goes_in_order(alloc: Global, circuit: &Circuit, block: &Block) -> Result<bool, Fail>
     requires sources { block.now.sources ≡ circuit.now.sources }
     requires lines { 3 < line_count circuit.now }

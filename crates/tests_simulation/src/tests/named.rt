@@ -25,7 +25,7 @@ const FAULTS: [Fault; 11] = [
     Stuck(Stem(2), true),
 ];
 
-// Whether a circuit's first position shows 1 under a fault where the sources have these bits.
+// Returns whether a circuit's first position shows 1 under a fault if the sources have the bits of `vector`.
 fn shows_one(alloc: Global, circuit: &Circuit, fault: Fault, vector: &str) -> Result<bool, Fail> {
     let v = bits(alloc, vector)?;
     if v.len() != circuit.sources() as usize || !stands(circuit, fault) {
@@ -35,7 +35,7 @@ fn shows_one(alloc: Global, circuit: &Circuit, fault: Fault, vector: &str) -> Re
     Ok(answer.len() > 0 && answer.get(0))
 }
 
-// What the position shows under each of the faults.
+// Returns what the first position shows under each of the faults.
 fn rows_at(alloc: Global, circuit: &Circuit, vector: &str) -> Result<AnswerRows, Fail>
     ensures { IfOk result (λ rows. length rows ≡ 11) }
 {
@@ -46,7 +46,7 @@ fn rows_at(alloc: Global, circuit: &Circuit, vector: &str) -> Result<AnswerRows,
     Ok(rows)
 }
 
-// The classes of the faults by the patterns 0 and 1.
+// Returns the classes of the faults by the patterns 0 and 1.
 fn classes_of(alloc: Global, circuit: &Circuit) -> Result<Classes, Fail>
     ensures { IfOk result (λ classes. length classes.class_of ≡ 11) }
 {
@@ -58,7 +58,7 @@ fn classes_of(alloc: Global, circuit: &Circuit) -> Result<Classes, Fail>
     Ok(classes)
 }
 
-// Whether fault 5 is all of class 2 and fault 9 all of class 3, and the first pattern is named for both.
+// Returns whether fault 5 is all of class 2 and fault 9 all of class 3, and the first pattern is named for both.
 fn are_named(classes: &Classes) -> bool {
     classes.count() == 4
         && classes.members(2) == [5].as_slice()
@@ -77,8 +77,8 @@ fn is_told(alloc: Global) -> Result<bool, Fail> {
     )
 }
 
-// Class 3 is no child of class 2: the pattern at which both went apart is that of its parent, class 1. At it they answer 1 and
-// 0.
+// Class 3 is no child of class 2: the pattern that separated the two is that of its parent, class 1. To it they answer
+// 1 and 0.
 #[test]
 fn pattern_of_two_classes_by_their_parents(rt: HostRuntime) -> Result<(), Fail> {
     assert!(rt; is_told(rt.alloc())?);

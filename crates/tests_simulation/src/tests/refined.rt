@@ -11,7 +11,7 @@ use std::test::Fail;
 // The numbers and places at which rows of answers are 1, and how many classes these rows add.
 type Cut = (&'static [(usize, usize)], u32);
 
-// Whether each of these rows adds so many classes.
+// Returns whether each of these rows adds as many classes as it should.
 fn are_added(
     alloc: Global,
     classes: &mut Classes,
@@ -30,7 +30,7 @@ fn are_added(
     Ok(true)
 }
 
-// How many classes are added by the rows that are 1 at these numbers and places.
+// Returns how many classes are added by the rows that are 1 at these numbers and places.
 fn added_by(
     alloc: Global,
     classes: &mut Classes,
@@ -45,7 +45,7 @@ fn added_by(
     Ok(classes.refine(&rows)?)
 }
 
-// Rows of answers that are 1 at these numbers and places, and else 0.
+// Returns rows of answers that are 1 at these numbers and places, and 0 elsewhere.
 fn rows_with(
     alloc: Global,
     numbers: usize,
@@ -64,8 +64,8 @@ fn rows_with(
     Ok(rows)
 }
 
-// The faults of an AND of two sources at the vectors 00, 10, 01 and 11, and at 10 again: the free circuit, each source at 0
-// and at 1, and the gate at 0 and at 1.
+// The faults of an AND of two sources at the vectors 00, 10, 01 and 11, and at 10 again: the free circuit, each source
+// at 0 and at 1, and the gate at 0 and at 1.
 static CUTS_OF_AND: [Cut; 5] = [
     (&[(6, 0)], 1),
     (&[(4, 0), (6, 0)], 1),
@@ -82,7 +82,7 @@ fn classes_of_an_and(rt: HostRuntime) -> Result<(), Fail> {
     Ok(())
 }
 
-// Whether these are the classes of the faults of an AND.
+// Returns whether these are the classes of the faults of an AND.
 fn are_of_and(classes: &Classes) -> bool
     requires { length classes.now.class_of ≡ 7 }
 {
@@ -112,7 +112,7 @@ fn new_numbers_go_by_class(rt: HostRuntime) -> Result<(), Fail> {
     Ok(())
 }
 
-// Numbers 1 and 3 leave class 0 with one answer, and 2 with another. Gives how many classes are added.
+// Numbers 1 and 3 leave class 0 with one answer, and 2 with another. Returns how many classes are added.
 fn added_by_leavers(classes: &mut Classes) -> Result<u32, Fail>
     requires { classes.old ≡ first_table 5 }
     ensures { length classes.new.class_of ≡ 5 }

@@ -38,10 +38,10 @@ fn shape_of(found: &Searched) -> Shape {
     }
 }
 
-// A search for the stem of a line, stuck at a value, with so many leaves.
+// A search: a line whose stem is stuck, the value at which it is stuck, and the number of leaves.
 type Asked = (u32, bool, u32);
 
-// The shape of what is found for a simulation's circuit without a fault and with one that stands in it.
+// Returns the shape of what is found for the circuit of a simulation without a fault and with the fault `stuck` of it.
 fn found_with(
     alloc: Global,
     sim: &mut PairSim,
@@ -56,7 +56,7 @@ fn found_with(
     Ok(shape_of(&found))
 }
 
-// The same with levels of its own.
+// Returns the shape of what one search finds with a simulation and new levels.
 fn found_by(alloc: Global, sim: &mut PairSim, asked: Asked) -> Result<Shape, Fail> {
     let circuit = sim.circuit();
     let (line, bit, leaves) = asked;
@@ -68,13 +68,14 @@ fn found_by(alloc: Global, sim: &mut PairSim, asked: Asked) -> Result<Shape, Fai
     found_with(alloc, sim, &levels, stuck, leaves)
 }
 
-// And with a simulation of its own.
+// Returns the shape of what one search finds with a new simulation.
 fn found_alone(alloc: Global, circuit: &Circuit, asked: Asked) -> Result<Shape, Fail> {
     let mut sim = PairSim::new(alloc, circuit, &Fault::Free, &Fault::Free)?;
     found_by(alloc, &mut sim, asked)
 }
 
-// The parity of nine sources, and the opposite parity by threes; line 14 is the XOR of both, which is always 1, and is shown.
+// The parity of nine sources, and the opposite parity by threes; line 14 is the XOR of both, which is always 1, and is
+// shown.
 const PARITIES: CircuitParts<'static> = CircuitParts {
     sources: 9,
     gates: &[
@@ -110,7 +111,7 @@ const SHAPES: &[(CircuitParts<'static>, Asked, Shape)] = &[
     (CONSTANT, (0, false, 1), Shape::Apart(0)),
 ];
 
-// The shape of what is found in the circuit of these parts.
+// Returns the shape of what is found in the circuit of these parts.
 fn found_in(alloc: Global, parts: CircuitParts, asked: Asked) -> Result<Shape, Fail> {
     let circuit = circuit(alloc, parts)?;
     found_alone(alloc, &circuit, asked)
@@ -135,7 +136,7 @@ const IN_TURN: &[Asked] = &[
     (0, true, 4),
 ];
 
-// The first search, if any, by which one simulation finds something else than a new one.
+// Returns the first search, if any, by which one simulation finds something else than a new one.
 fn first_wrong(alloc: Global, circuit: &Circuit, sim: &mut PairSim) -> Result<Option<usize>, Fail> {
     for (at, asked) in IN_TURN.iter().enumerate() {
         if found_by(alloc, sim, *asked)? != found_alone(alloc, circuit, *asked)? {

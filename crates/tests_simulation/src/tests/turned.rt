@@ -12,7 +12,8 @@ use std::alloc::{AllocError, Global};
 use std::test::Fail;
 use word_sim::{Block, GoodSim, Stream};
 
-// The sources a, b and c; 3 is the NAND of a and b, 4 the OR of that and of c, and 5 the inverse of c. The OR is shown, and then the inverse.
+// The sources a, b and c; 3 is the NAND of a and b, 4 the OR of that and of c, and 5 the inverse of c. The OR is shown,
+// and then the inverse.
 const BRANCHED: CircuitParts<'static> = CircuitParts {
     sources: 3,
     gates: &[
@@ -23,7 +24,8 @@ const BRANCHED: CircuitParts<'static> = CircuitParts {
     positions: &[4, 5],
 };
 
-// The sources s, a and b; 3 is the constant 1, 4 is b where s is 1 and else a, and 5 is the XOR of the constant and of that.
+// The sources s, a and b; 3 is the constant 1, 4 is b if s is 1 and else a, and 5 is the XOR of the constant and of
+// that.
 // Shown are s, the chosen bit and the XOR.
 const CHOICE: CircuitParts<'static> = CircuitParts {
     sources: 3,
@@ -35,7 +37,7 @@ const CHOICE: CircuitParts<'static> = CircuitParts {
     positions: &[0, 4, 5],
 };
 
-// The sources a, b and c, of which no gate reads c; 3 is the AND of a, a and b, and 4 its inverse, which is shown.
+// The sources a, b and c; no gate reads c. 3 is the AND of a, a and b, and 4 its inverse, which is shown.
 const TWICE: CircuitParts<'static> = CircuitParts {
     sources: 3,
     gates: &[(Kind::And, &[0, 0, 1]), (Kind::Not, &[3])],
@@ -49,7 +51,7 @@ struct Case {
     end: (Head, &'static [u8; 8]),
 }
 
-// The vectors 000, 100, 010, 110, 001, 101, 011 and 111, and these again and again.
+// Returns a block of the vectors 000, 100, 010, 110, 001, 101, 011 and 111, and these again and again.
 fn counted_vectors(alloc: Global) -> Result<Block, AllocError>
     ensures { IfOk result (λ block. block.sources ≡ 3) }
 {
@@ -58,7 +60,7 @@ fn counted_vectors(alloc: Global) -> Result<Block, AllocError>
     Ok(block)
 }
 
-// The first fault of these cases that turns another head, or in other lanes.
+// Returns the first fault of these cases, if any, that turns another head or turns it in other lanes.
 fn first_wrong(alloc: Global, parts: CircuitParts, cases: &[Case]) -> Result<Option<Fault>, Fail>
     requires { parts.sources ≡ 3 }
 {
@@ -77,7 +79,7 @@ fn first_wrong(alloc: Global, parts: CircuitParts, cases: &[Case]) -> Result<Opt
     Ok(None)
 }
 
-// Whether a case's fault turns these heads in these lanes, and no fault turns none.
+// Returns whether a case's fault turns the heads of the case in their lanes, and `Free` turns none.
 fn turns_so(good: &GoodSim, heads: &Heads, case: &Case) -> bool
     requires circuit { good.now.circuit ≡ heads.now.circuit }
     requires ways { AreWays good.now heads.now.ways }
@@ -91,7 +93,7 @@ fn turns_so(good: &GoodSim, heads: &Heads, case: &Case) -> bool
     none && is_turn(own, case.own.0, case.own.1) && is_turn(end, case.end.0, case.end.1)
 }
 
-// Whether there is a turn of this head in these of the first eight lanes.
+// Returns whether there is a turn, of `head`, and of the first eight lanes it has those of `lanes`.
 fn is_turn(turn: Option<Turn>, head: Head, lanes: &[u8; 8]) -> bool {
     let Some(turn) = turn else {
         return false;
@@ -104,7 +106,8 @@ fn is_turn(turn: Option<Turn>, head: Head, lanes: &[u8; 8]) -> bool {
     turn.head == head
 }
 
-// A turned a turns the NAND where b is 1, and the NAND turns the OR where c is 0. So do stuck values where they aren't there.
+// If a is turned, it turns the NAND if b is 1, and the NAND turns the OR if c is 0. A stuck value does so if the line
+// has the other one.
 const BRANCHED_CASES: &[Case] = &[
     Case {
         fault: Stuck(Stem(0), true),
@@ -154,7 +157,7 @@ fn branched_turns(rt: HostRuntime) -> Result<(), Fail> {
     Ok(())
 }
 
-// A select that is shown, a data pin that is chosen where s is 0, and a constant that the XOR passes on in every lane.
+// A select that is shown, a data pin that is chosen if s is 0, and a constant that the XOR passes on in every lane.
 const CHOICE_CASES: &[Case] = &[
     Case {
         fault: Stuck(Stem(0), false),
@@ -194,7 +197,7 @@ fn choice_turns(rt: HostRuntime) -> Result<(), Fail> {
     Ok(())
 }
 
-// A line that one gate reads twice, one of its pins, a line that goes on alone, and one that nothing uses.
+// A line that one gate reads twice, one of its pins, a line with one destination, and a line that nothing uses.
 const TWICE_CASES: &[Case] = &[
     Case {
         fault: Stuck(Stem(0), true),

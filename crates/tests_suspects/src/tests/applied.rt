@@ -16,10 +16,10 @@ const COVER: &[&str] = &["cover", "n", "r", "l", "--applied", "v"];
 
 const BRIDGES: &[&str] = &["bridges", "n", "r", "l", "--applied", "v"];
 
-// Eight vectors, of which the sixth is the second again, and the fourth and the seventh split no class.
+// Eight vectors: the sixth is the second again, and the fourth and the seventh split no class.
 const LIST: &[u8] = b"01111\n10010\n10001\n00100\n01011\n10010\n10011\n11111\n";
 
-// The list and four vectors behind it, which the result with all classes has found.
+// The list and then four vectors that the result with all classes has found.
 const LONGER: &[u8] =
     b"01111\n10010\n10001\n00100\n01011\n10010\n10011\n11111\n10100\n00101\n00111\n01000\n";
 
@@ -64,7 +64,7 @@ type ListCase = (
     &'static [u8],
 );
 
-// Each log of a list is so listed or refused, for a netlist with its result, and no file changes.
+// Checks that each log of a list is listed or refused so, for a netlist with its result, and that no file changes.
 fn are_listed(
     rt: &impl Abort,
     alloc: Global,
@@ -83,7 +83,7 @@ fn are_listed(
     Ok(())
 }
 
-// The words of the option stand anywhere. Without it the log is one of the result's patterns, of which there are five.
+// The words of the option come anywhere. Without it the log is one of the result's five patterns.
 static OF_GRADED: [ListCase; 9] = [
     (LIST, OF_THREE, SUSPECTS, 0, GRADED_SUSPECTS),
     (
@@ -126,7 +126,7 @@ static OF_GRADED: [ListCase; 9] = [
     ),
 ];
 
-// The vectors that were found tell 3 from 26, of which a log of the list alone knows nothing.
+// The vectors that were found distinguish 3 from 26, which a log of the list alone doesn't.
 static OF_TOPPED: [ListCase; 6] = [
     (LIST, OF_THREE, SUSPECTS, 0, TOPPED_SUSPECTS),
     (
@@ -161,7 +161,7 @@ static OF_TOPPED: [ListCase; 6] = [
 // The patterns of a result, as its list.
 const OWN: &[u8] = b"00000\n10000\n01000\n00100\n10100\n01100\n01010\n00110\n01110\n00001\n00111\n";
 
-// With them each command prints what it prints without a list.
+// With these vectors each command prints what it prints without a list.
 static OF_OWN: [ListCase; 6] = [
     (OWN, C17_STUCK, SUSPECTS, 0, STUCK),
     (OWN, C17_BRIDGED, SUSPECTS, 0, BRIDGED),
@@ -236,7 +236,7 @@ fn logs_of_a_list(rt: HostRuntime) -> Result<(), Fail> {
     are_listed(&rt, rt.alloc(), C17, GRADED, &REFUSED)
 }
 
-// An AND of which the result has one pattern. Numbers 2, 4 and 6 are open with 0; the list tells 2 and 6 from it.
+// An AND whose result has one pattern. Numbers 2, 4 and 6 are open with 0; the list distinguishes 2 and 6 from it.
 const ONE_PATTERN: &[u8] =
     b"diatest 1 2 1 7\nbudget 0 0 0\npattern 11\nsame 2 0 O ?\nsame 3 1 C\nsame 4 0 O ?\nsame 5 1 C\nsame 6 0 O ?\nclass 0 - -\nclass 1 0 0\nmember 0 0 rep\nmember 1 1 rep\nmember 2 0 open\nmember 3 1 equal\nmember 4 0 open\nmember 5 1 equal\nmember 6 0 open\nend\n";
 
@@ -292,7 +292,7 @@ const OF_THREE_VECTORS: &[File] = &[("n", AND), ("r", ONE_PATTERN), ("v", THREE)
 
 const COUNTS: &[u8] = b"patterns 3 positions 1\n";
 
-// The log may have the name of a file that was read. A list has any name, an empty one too.
+// The log may have the name of a file that was read. A list may have any name, an empty one too.
 static OTHERS: [Case; 12] = [
     (
         OF_THREE_VECTORS,
@@ -384,7 +384,8 @@ fn logs_of_a_good_chip_and_files_that_are_absent(rt: HostRuntime) -> Result<(), 
     all_leave(&rt, alloc, &OTHERS)
 }
 
-// The first vector of the list 255 times, so that the others stand in the last place of a block of lanes and behind it.
+// Returns a list with the first vector 255 times, so that the others are in the last place of a block of lanes and
+// after it.
 fn long_list(alloc: Global) -> Result<String, Fail> {
     let mut list = String::new(alloc);
     for _number in 0..255 {
@@ -394,7 +395,7 @@ fn long_list(alloc: Global) -> Result<String, Fail> {
     Ok(list)
 }
 
-// What nets 10 and 19 answer to it, shorted.
+// Returns what c17 with nets 10 and 19 shorted answers to that list.
 fn long_log(alloc: Global) -> Result<String, Fail> {
     let mut log = String::new(alloc);
     for number in 0..256 {

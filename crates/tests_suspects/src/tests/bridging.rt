@@ -19,8 +19,8 @@ pub(crate) const OF_BRIDGED: &[u8] =
 const WITHIN_ONE: &[u8] =
     b"and 10 19 2 0\nor 22 23 2 0\nor 7 22 2 1\ndominant 11 2 2 3\nor 2 11 2 4\ndominant 6 16 2 4\ndominant 2 16 2 8\nand 10 16 1 0\nlisted 8 of 59 exact 2 failing 2 logged 11\n";
 
-// Whole logs, logs of some patterns, of none and of `x` alone; as many bridges as there are, fewer and more; within no failing
-// pattern, some of them and more than there are.
+// Whole logs, logs of some patterns, of none and of `x` alone; as many bridges as there are, fewer and more; `within`
+// of no failing pattern, of some and of more than there are.
 static OF_C17: [LogCase; 13] = [
     (C17_EXPECTED, BRIDGES, 0, NO_FAILING),
     (
@@ -87,7 +87,7 @@ static OF_C17: [LogCase; 13] = [
     ),
 ];
 
-// The last eight are refused: patterns out of order, twice and one too many; another width; no log.
+// The last eight logs are refused: patterns out of order, twice and one too many; another width; no log.
 static OF_AND: [LogCase; 13] = [
     (
         b"0 1\n3 0\n",

@@ -39,7 +39,7 @@ static OF_AND: [Covering; 6] = [
     (b"4 0\n", 6, b"log: Order at line 1\n"),
 ];
 
-// Whether each log is so covered or refused, for a netlist with its result.
+// Checks that each log is covered or refused so, for a netlist with its result.
 fn are_covered(
     rt: &impl Abort,
     alloc: Global,

@@ -16,7 +16,7 @@ const FOUR: &[u8] = b"patterns 4 positions 1\n";
 
 const ELEVEN: &[u8] = b"patterns 11 positions 2\n";
 
-// The log may have a name of its own, or that of the result or of the netlist, and replaces what stands there.
+// The log may have a name of its own, or that of the result or the netlist, and replaces the file of that name.
 static WRITTEN: [Case; 6] = [
     (OF_C17, EXPECT, 0, ELEVEN, ("l", Some(C17_EXPECTED))),
     (OF_AND, EXPECT, 0, FOUR, ("l", Some(AND_EXPECTED))),
@@ -75,13 +75,13 @@ static NOT_WRITTEN: [Case; 5] = [
     (&[("r", AND_RESULT)], EXPECT, 7, b"", ("l", None)),
 ];
 
-// A refused netlist, results that aren't valid, and absent files: no file is created, and none is changed.
+// A refused netlist, results that aren't valid, and missing files: no file is created, and none is changed.
 #[test]
 fn logs_that_are_not_written(rt: HostRuntime) -> Result<(), Fail> {
     all_leave(&rt, rt.alloc(), &NOT_WRITTEN)
 }
 
-// Where no position shows anything there is no pattern, and the log is empty.
+// If no position shows anything there is no pattern, and the log is empty.
 #[test]
 fn log_without_patterns(rt: HostRuntime) -> Result<(), Fail> {
     let alloc = rt.alloc();

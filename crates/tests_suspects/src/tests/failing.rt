@@ -1,4 +1,4 @@
-//! Runs over a shelf of which one call fails.
+//! Runs over a shelf, one call of which fails.
 
 use crate::tests::runs::{File, left_by};
 use crate::tests::texts::{AND, AND_EXPECTED, AND_RESULT};
@@ -6,10 +6,10 @@ use std::alloc::Global;
 use std::process::Abort;
 use std::test::Fail;
 
-// A call fails: its number, the status, and what stands under the log's name.
+// A call fails: its number, the status, and what the file under the log's name holds.
 type Failing = (u64, u8, Option<&'static [u8]>);
 
-// Each of these calls fails in a run, and prints last.
+// Checks that each of these calls fails in a run, which prints last.
 fn each_fails(
     rt: &impl Abort,
     alloc: Global,
@@ -25,8 +25,8 @@ fn each_fails(
     Ok(())
 }
 
-// The netlist is opened and read by calls 0 to 2, the result by calls 3 to 5; call 6 creates the log, call 7 writes it, and call
-// 8 prints.
+// The netlist is opened and read by calls 0 to 2, the result by calls 3 to 5; call 6 creates the log, call 7 writes it,
+// and call 8 prints.
 static OF_EXPECT: [Failing; 7] = [
     (0, 7, None),
     (2, 7, None),
@@ -44,7 +44,7 @@ fn each_failing_call_of_expect_shows(rt: HostRuntime) -> Result<(), Fail> {
     each_fails(&rt, rt.alloc(), &files, &words, &OF_EXPECT)
 }
 
-// With a list it is read by calls 6 to 8, before the log is created.
+// If there is a list, calls 6 to 8 read it before the log is created.
 static OF_EXPECT_AT: [Failing; 6] = [
     (5, 7, None),
     (6, 7, None),
@@ -68,7 +68,8 @@ const OF_VECTORS: &[u8] = b"0 0\n1 0\n";
 
 const TWO: &[u8] = b"0 1\n3 0\n";
 
-// The netlist is opened and read by calls 0 to 2, the result by calls 3 to 5, the log by calls 6 to 8, and call 9 prints.
+// The netlist is opened and read by calls 0 to 2, the result by calls 3 to 5, the log by calls 6 to 8, and call 9
+// prints.
 static OF_SUSPECTS: [Failing; 7] = [
     (1, 7, Some(TWO)),
     (3, 7, Some(TWO)),

@@ -5,8 +5,8 @@ use std::alloc::Global;
 use std::process::Abort;
 use std::test::Fail;
 
-// One OR of 260 inputs. An input stuck at 0 has an odd number, from 1 on, and stuck at 1 the next one; the output stuck at 0
-// has 521, and stuck at 1 522. The inputs stuck at 1 have the root 522.
+// One OR of 260 inputs. An input stuck at 0 has an odd number, starting at 1, and stuck at 1 the next one; the output
+// stuck at 0 has 521, and stuck at 1 522. The inputs stuck at 1 have the root 522.
 const INPUTS: u32 = 260;
 
 fn one_or(alloc: Global) -> Result<String, Fail> {
@@ -20,7 +20,7 @@ fn one_or(alloc: Global) -> Result<String, Fail> {
     Ok(text)
 }
 
-// The line of the pattern at which one input alone is 1, or none where no input has this number.
+// Appends the line of the pattern with a 1 at one input alone, or with none if no input has this number.
 fn push_pattern(text: &mut String, one: u32) -> Result<(), Fail> {
     text.push_str("pattern ")?;
     for input in 0..INPUTS {
@@ -30,7 +30,7 @@ fn push_pattern(text: &mut String, one: u32) -> Result<(), Fail> {
     Ok(())
 }
 
-// The patterns of the result: the one at which an input alone is 1 for each input, and the one with no 1.
+// Appends the patterns of the result: for each input the one with a 1 there alone, and the one with no 1.
 fn push_patterns(text: &mut String) -> Result<(), Fail> {
     for one in 0..INPUTS + 1 {
         push_pattern(text, one)?;
@@ -38,7 +38,7 @@ fn push_patterns(text: &mut String) -> Result<(), Fail> {
     Ok(())
 }
 
-// The inputs stuck at 1 and the output stuck at 1 stand in the class of 2, and have its root.
+// Appends the evidence: the inputs stuck at 1 and the output stuck at 1 are in the class of 2, and have its root.
 fn push_evidence(text: &mut String) -> Result<(), Fail> {
     for input in 1..INPUTS + 1 {
         let number = 2 * input + 2;
@@ -47,8 +47,9 @@ fn push_evidence(text: &mut String) -> Result<(), Fail> {
     Ok(())
 }
 
-// Each pattern splits an input stuck at 0 off the class of 0, the first one together with the output stuck at 0, from which the
-// second one parts it; and the last one splits off what is stuck at 1.
+// Appends the classes. Each pattern except the last splits an input stuck at 0 off the class of 0. The first pattern
+// splits it off together with the output stuck at 0, and the second pattern distinguishes these two. The last pattern
+// splits off what is stuck at 1.
 fn push_classes(text: &mut String) -> Result<(), Fail> {
     text.push_str("class 0 - -\nclass 1 0 0\nclass 2 0 1\nclass 3 1 1\n")?;
     for pattern in 2..INPUTS + 1 {
@@ -80,7 +81,8 @@ fn result_of_or(alloc: Global) -> Result<String, Fail> {
     Ok(text)
 }
 
-// The log of a chip that answers 0 to these patterns, and to all others as the good one: 1, and 0 to the last.
+// Returns the log of a chip that answers 0 to these patterns, and answers all others as the good one does: 1, and 0 to
+// the last.
 fn log_of(alloc: Global, failing: &[u32]) -> Result<String, Fail> {
     let mut log = String::new(alloc);
     for pattern in 0..INPUTS {
@@ -124,8 +126,8 @@ const SHORTS_OF_BOTH: &[u8] =
 const SHORTS_OF_LAST: &[u8] =
     b"dominant i0 i259 1 0\ndominant i1 i259 1 0\nlisted 2 of 777 exact 259 failing 1 logged 261\n";
 
-// A chip fails at a pattern of either block, and one at a pattern of the last block alone. The output stuck at 0 puts a 0 also
-// at each other pattern with a 1.
+// One chip fails at a pattern of either block, and one at a pattern of the last block alone. The output stuck at 0
+// gives a 0 also at each other pattern with a 1.
 #[test]
 fn logs_of_two_blocks(rt: HostRuntime) -> Result<(), Fail> {
     let alloc = rt.alloc();

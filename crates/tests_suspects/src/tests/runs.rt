@@ -14,7 +14,7 @@ fn strings(alloc: Global, all: &[&str]) -> Result<Vec<String>, AllocError> {
     Ok(words)
 }
 
-/// A name, and what stands under it.
+/// A name, and what the file under it holds.
 pub(crate) type File = (&'static str, &'static [u8]);
 
 /// What a run leaves: its status, and the shelf.
@@ -23,7 +23,7 @@ pub(crate) struct Left {
     shelf: MemoryShelf,
 }
 
-// Written out, it is one step in the proof of each test that lets a shelf go.
+// Written by hand, it is one step in the proof of each test that drops a shelf.
 impl Drop for Left {
     fn drop(self) {
         let Left {
@@ -39,7 +39,7 @@ impl Left {
         self.status == status && self.shelf.console() == console
     }
 
-    /// Whether the file under a name is this, or there is none.
+    /// Whether the file under a name is this, or there is none if `wanted` is none.
     pub(crate) fn holds(&self, name: &str, wanted: Option<&[u8]>) -> bool {
         match (self.shelf.file(name), wanted) {
             (Some(bytes), Some(all)) => bytes == all,
@@ -48,7 +48,7 @@ impl Left {
         }
     }
 
-    /// A copy of the file under a name.
+    /// Returns a copy of the file under a name.
     pub(crate) fn copy_of(&self, alloc: Global, name: &str) -> Result<Vec<u8>, Fail> {
         match self.shelf.file(name) {
             Some(bytes) => Ok(bytes.to_vec(alloc)?),
@@ -57,7 +57,7 @@ impl Left {
     }
 }
 
-/// What a run leaves over a shelf that moves so many bytes at a time, fails these calls, and holds these files.
+/// Returns what a run leaves over a shelf that moves `chunk` bytes at a time, fails these calls, and holds these files.
 pub(crate) fn left_by(
     alloc: Global,
     chunk: usize,
@@ -83,14 +83,14 @@ pub(crate) type Case = (
     (&'static str, Option<&'static [u8]>),
 );
 
-// Whether a run leaves what is wanted.
+// Whether a run leaves what the case says.
 fn leaves(alloc: Global, case: &Case) -> Result<bool, AllocError> {
     let (files, words, status, console, (name, file)) = *case;
     let left = left_by(alloc, 64, &[], files, words)?;
     Ok(left.ended(status, console) && left.holds(name, file))
 }
 
-/// Each run leaves what is wanted.
+/// Checks that each run leaves what its case says.
 pub(crate) fn all_leave(rt: &impl Abort, alloc: Global, cases: &[Case]) -> Result<(), Fail> {
     for (at, case) in cases.iter().enumerate() {
         assert!(rt; leaves(alloc, case)?, "case {at}");
@@ -101,7 +101,7 @@ pub(crate) fn all_leave(rt: &impl Abort, alloc: Global, cases: &[Case]) -> Resul
 /// A log, the words, the status, and what is printed.
 pub(crate) type LogCase = (&'static [u8], &'static [&'static str], u8, &'static [u8]);
 
-/// Each log is so listed or refused, for a netlist with its result, and stays as it was.
+/// Checks that each log is listed or refused so, for a netlist with its result, and stays as it was.
 pub(crate) fn are_listed(
     rt: &impl Abort,
     alloc: Global,

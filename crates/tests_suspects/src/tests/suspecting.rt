@@ -79,7 +79,8 @@ static OF_AND: [LogCase; 7] = [
     (AND_EXPECTED, SUSPECTS, 0, b"listed 0 failing 0 logged 4\n"),
 ];
 
-// Lines that aren't those of a log for the AND's result: patterns out of order, twice and one too many; of another width.
+// Lines that aren't those of a log for the AND's result: patterns out of order, twice and one too many; of another
+// width.
 static REFUSED: [LogCase; 7] = [
     (b"1 0\n0 0\n", SUSPECTS, 6, b"log: Order at line 2\n"),
     (b"1 0\n1 0\n", SUSPECTS, 6, b"log: Order at line 2\n"),
@@ -141,7 +142,7 @@ fn other_files(rt: HostRuntime) -> Result<(), Fail> {
     all_leave(&rt, rt.alloc(), &OTHERS)
 }
 
-// Members of a result that are left open have the score of the class in which they stand.
+// Members of a result that are left open have the score of their class.
 #[test]
 fn open_members(rt: HostRuntime) -> Result<(), Fail> {
     let alloc = rt.alloc();

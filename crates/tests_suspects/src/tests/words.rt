@@ -37,7 +37,7 @@ static WRONG: [&[&str]; 29] = [
     &["adapt", "n", "r", "p", "--applied", "v"],
 ];
 
-// Whether a run says so, and makes no file.
+// Whether a run says that the words aren't understood, and makes no file.
 fn is_not_understood(alloc: Global, words: &[&str]) -> Result<bool, AllocError> {
     let left = left_by(alloc, 64, &[], &[], words)?;
     Ok(left.ended(2, b"words: not understood\n") && left.holds("l", None))

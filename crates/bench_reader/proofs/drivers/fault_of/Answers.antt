@@ -6,7 +6,7 @@ use Rattle.bench_reader.specs.Drivers.{driven_word, missing_driver, repeated_wor
 use Rattle.bench_reader.proofs.NumberLemmas.{unmarked_is}
 use Rattle.bench_reader.proofs.drivers.fault_of.Goals as goal
 
--- without a second driver, what stands against the drivers is the first use without one
+-- if no name is driven twice, the fault of the drivers is the first use without a driver
 fault_without : (ss : List Statement) (missing : Option Word) → repeated_word (filter_map driven_word ss) ≡ None → missing_driver ss ≡ missing → driver_fault ss ≡ fault_by None missing
 fault_without ss missing once is = ap (λ o. fault_by o (missing_driver ss)) once ∙ ap (fault_by None) is
 

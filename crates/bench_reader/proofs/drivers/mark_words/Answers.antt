@@ -5,7 +5,7 @@ use Rattle.bench_reader.specs.declared.statement.Word.{Word}
 use Rattle.bench_reader.proofs.NumberLemmas.{repeated_is, repeated_none}
 use Rattle.bench_reader.proofs.drivers.mark_words.Goals as goal
 
--- a word that stands nowhere
+-- a word that is in no text
 abbrev nowhere : Word
 nowhere = record { name = 0; place = record { byte = 0; line = 0 } }
 

@@ -6,7 +6,7 @@ use Rattle.text_fields.specs.Fields.{Text}
 use Rattle.bench_reader.specs.Grammar.{Driver, gate_driver, flip_flop_driver, driver_of, is_word}
 use Rattle.bench_reader.proofs.word.driver_of.Goals as goal
 
--- what a word says by some of the table's entries
+-- the meaning of a word by some of the table's entries
 abbrev said : Text → List (Text × Driver) → Option Driver
 said word entries = option_map (λ x. x.1) (find (λ x. str_eq_ignore_ascii_case word x.0) entries)
 

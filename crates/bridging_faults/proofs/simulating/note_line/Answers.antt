@@ -16,13 +16,13 @@ use Rattle.bridging_faults.proofs.SimulatedLemmas.{line_noted}
 use Rattle.bridging_faults.proofs.simulating.note_line.Goals as goal
 
 pub flip-requires-clause-circuit : goal.flip-requires-clause-circuit
-flip-requires-clause-circuit c = sym c.requires.run.bench.sim
+flip-requires-clause-circuit c = sym c.requires.run.pattern_sim.sim
 
 pub flip-requires-clause-ran : goal.flip-requires-clause-ran
 flip-requires-clause-ran c = rw c.requires.run.ran refl
 
 pub flip-requires-clause-head : goal.flip-requires-clause-head
-flip-requires-clause-head c = subst (λ (k : Circuit). c.args.line < line_count k) (sym c.requires.run.bench.sim) c.requires.line
+flip-requires-clause-head c = subst (λ (k : Circuit). c.args.line < line_count k) (sym c.requires.run.pattern_sim.sim) c.requires.line
 
 pub note_lanes-requires-clause-count : goal.note_lanes-requires-clause-count
 note_lanes-requires-clause-count c = omega (arith, c.live-count.ensures.value, c.requires.run.few)
@@ -34,16 +34,16 @@ pub note_lanes-requires-clause-wide : goal.note_lanes-requires-clause-wide
 note_lanes-requires-clause-wide c = omega (arith, c.requires.good.wide c.args.line c.requires.line, c.live-count.ensures.value)
 
 pub note_fitting-requires-clause-columns : goal.note_fitting-requires-clause-columns
-note_fitting-requires-clause-columns c = subst (λ (k : Circuit). AreColumnRows (length k.positions) c.args.columns.now) (sym (c.flip.ensures.circuit ∙ c.requires.run.bench.sim)) c.requires.columns
+note_fitting-requires-clause-columns c = subst (λ (k : Circuit). AreColumnRows (length k.positions) c.args.columns.now) (sym (c.flip.ensures.circuit ∙ c.requires.run.pattern_sim.sim)) c.requires.columns
 
 pub note_fitting-requires-clause-count : goal.note_fitting-requires-clause-count
 note_fitting-requires-clause-count c = omega (arith, c.live-count.ensures.value, c.requires.run.few)
 
 pub note_fitting-requires-clause-past : goal.note_fitting-requires-clause-past
 note_fitting-requires-clause-past c = λ position lane low past live.
-    let good = c.args.bench.now.good in
-    let ran : vectors_of good ≡ c.args.bench.now.block.vectors = ap (λ (ran : Option (List (List Bool))). unwrap_or ran []) c.requires.run.ran in
-    c.flip.ensures.differences.past position lane (omega (arith, low, ap (λ (k : Circuit). length k.positions) (c.flip.ensures.circuit ∙ c.requires.run.bench.sim))) (omega (arith, past, c.live-count.ensures.value, ap length ran)) live
+    let good = c.args.pattern_sim.now.good in
+    let ran : vectors_of good ≡ c.args.pattern_sim.now.block.vectors = ap (λ (ran : Option (List (List Bool))). unwrap_or ran []) c.requires.run.ran in
+    c.flip.ensures.differences.past position lane (omega (arith, low, ap (λ (k : Circuit). length k.positions) (c.flip.ensures.circuit ∙ c.requires.run.pattern_sim.sim))) (omega (arith, past, c.live-count.ensures.value, ap length ran)) live
 
 pub note_fitting-requires-clause-row : goal.note_fitting-requires-clause-row
 note_fitting-requires-clause-row c = omega (arith, c.requires.turned.many, c.requires.line)
@@ -55,16 +55,16 @@ pub returns-clause-run : goal.returns-clause-run
 returns-clause-run c =
     let run = c.requires.run in
     record {
-      bench = record { circuit = run.bench.circuit; subject = run.bench.subject; block = run.bench.block; good = run.bench.good; sim = c.flip.ensures.circuit ∙ run.bench.sim };
+      pattern_sim = record { circuit = run.pattern_sim.circuit; subject = run.pattern_sim.subject; block = run.pattern_sim.block; good = run.pattern_sim.good; sim = c.flip.ensures.circuit ∙ run.pattern_sim.sim };
       ran = run.ran;
       few = run.few;
     }
 
 pub returns-clause-good : goal.returns-clause-good
 returns-clause-good c =
-    let bench = c.args.bench.now in
-    let good = bench.good in
-    let vectors = bench.block.vectors in
+    let pattern_sim = c.args.pattern_sim.now in
+    let good = pattern_sim.good in
+    let vectors = pattern_sim.block.vectors in
     let old = c.args.good.now in
     let new = c.note_lanes.new.rows in
     let ran : vectors_of good ≡ vectors = ap (λ (ran : Option (List (List Bool))). unwrap_or ran []) c.requires.run.ran in
@@ -76,9 +76,9 @@ returns-clause-good c =
 
 pub returns-clause-turned : goal.returns-clause-turned
 returns-clause-turned c =
-    let bench = c.args.bench.now in
-    let good = bench.good in
-    let vectors = bench.block.vectors in
+    let pattern_sim = c.args.pattern_sim.now in
+    let good = pattern_sim.good in
+    let vectors = pattern_sim.block.vectors in
     let line = c.args.line in
     let columns = c.args.columns.now in
     let sim = c.flip.new.self in
@@ -90,7 +90,7 @@ returns-clause-turned c =
     line_noted (IsTurnedLane good.circuit vectors columns c.args.first) c.args.first (length vectors) bits line old new noted
     (λ lane bit live is. record {
       sim = sim;
-      circuit = c.flip.ensures.circuit ∙ c.requires.run.bench.sim;
+      circuit = c.flip.ensures.circuit ∙ c.requires.run.pattern_sim.sim;
       differ = λ position free h agrees.
           let low : lane < LANES = omega (arith, live, c.requires.run.few) in
           let inside : lane < length (vectors_of good) = subst (λ (vs : List (List Bool)). lane < length vs) (sym ran) live in

@@ -5,8 +5,8 @@ use Rattle.bridging_faults.proofs.simulating.note_lines.Given as goal
 
 abbrev pub invariant-loop-line : goal.invariant-loop-line
 invariant-loop-line l = record {
-  bench : l.bench ≡ record l.initial.bench { sim = l.bench.sim };
-  run : HasRunPatterns l.bench;
-  good : AreLinesNoted (IsFreeValue l.initial.bench.good.circuit l.initial.bench.block.vectors) l.first (length l.initial.bench.block.vectors) l.initial.good l.good l.line;
-  turned : AreLinesNoted (IsTurnedLane l.initial.bench.good.circuit l.initial.bench.block.vectors l.columns l.first) l.first (length l.initial.bench.block.vectors) l.initial.turned l.turned l.line;
+  pattern_sim : l.pattern_sim ≡ record l.initial.pattern_sim { sim = l.pattern_sim.sim };
+  run : HasRunPatterns l.pattern_sim;
+  good : AreLinesNoted (IsFreeValue l.initial.pattern_sim.good.circuit l.initial.pattern_sim.block.vectors) l.first (length l.initial.pattern_sim.block.vectors) l.initial.good l.good l.line;
+  turned : AreLinesNoted (IsTurnedLane l.initial.pattern_sim.good.circuit l.initial.pattern_sim.block.vectors l.columns l.first) l.first (length l.initial.pattern_sim.block.vectors) l.initial.turned l.turned l.line;
 }

@@ -1,7 +1,7 @@
 use Rattle.std.proofs.Common.{◌≡◌, ◌∙◌, ◌≤◌, List, Bool, length, ap, sym, subst, arith}
 use Rattle.std.specs.Prelude.{slice_range}
 use Rattle.net_model.specs.Circuit.{Circuit, line_count}
-use Rattle.table_dicts.specs.declared.bench.Bench.{Bench}
+use Rattle.table_dicts.specs.declared.pattern_sim.PatternSim.{PatternSim}
 use Rattle.bridging_faults.specs.Simulated.{IsFreeValue, IsTurnedBit, IsTurnedLane, HaveRoom, AreLinesNoted}
 use Rattle.bridging_faults.proofs.SimulatedLemmas.{known_room, known_more, last_is, value_moved, turned_moved}
 use Rattle.bridging_faults.proofs.simulating.simulate.Goals as goal
@@ -27,8 +27,8 @@ loop-first-preserved c =
     let GoodNoted : Circuit → Type 0 = λ k. AreLinesNoted (IsFreeValue k vectors) first (length vectors) c.loop-first.good c.note_lines.new.good (line_count k) in
     let TurnedNoted : Circuit → Type 0 = λ k. AreLinesNoted (IsTurnedLane k vectors logged.columns first) first (length vectors) c.loop-first.turned c.note_lines.new.turned (line_count k) in
     record {
-      bench = c.note_lines.ensures.run.bench;
-      circuit = ap (λ (b : Bench). b.good.circuit) c.note_lines.ensures.bench ∙ circuit;
+      pattern_sim = c.note_lines.ensures.run.pattern_sim;
+      circuit = ap (λ (b : PatternSim). b.good.circuit) c.note_lines.ensures.pattern_sim ∙ circuit;
       within = within;
       aligned = λ h. omega (arith, h, c.run-end.ensures.end, so_far.aligned c.loop-first-test.true);
       good = known_more (IsFreeValue s.subject.now logged.patterns.items) lines many (IsFreeValue s.subject.now vectors) first end (length vectors) c.loop-first.good c.note_lines.new.good so_far.good

@@ -16,7 +16,7 @@ use Rattle.compact_tests.proofs.CompactLemmas.{checked_answers, all_readable, ne
 use Rattle.compact_tests.proofs.compacting.thin_with.Goals as goal
 use Rattle.compact_tests.proofs.compacting.thin_with.Goals.{After-as_slice-patterns, After-len-numbers, In_ok-classes}
 
--- the places are within the patterns
+-- The places are within the patterns.
 within : (c : After-as_slice-patterns) → All (λ place. place < length c.as_slice-patterns.result.now) c.args.needed.now
 within c = subst (λ (vs : List (List Bool)). All (λ place. place < length vs) c.args.needed.now) (sym c.as_slice-patterns.ensures) c.requires.needed.within
 
@@ -28,7 +28,7 @@ readable c =
     let a = c.requires.accepted in
     subst (λ n. IsReadable c.args.bytes.now n a.records) (sym (number_of_faults c)) (all_readable c.args.circuit.now c.args.bytes.now a.records a.text_is a.accepted.valid.lines)
 
--- the classes are those of the patterns that are needed
+-- The classes are those of the needed patterns.
 table_is : (c : In_ok-classes) → IsTableOf c.args.circuit.now (vectors_at c.args.checked.now.patterns c.args.needed.now) c.in_ok-classes.classes
 table_is c = subst (λ (vs : List (List Bool)). IsTableOf c.args.circuit.now (vectors_at vs c.args.needed.now) c.in_ok-classes.classes) c.as_slice-patterns.ensures c.in_ok-classes.ensures
 

@@ -47,7 +47,7 @@ loop-group-preserved c = record {
       ];
 }
 
--- two numbers that share a class are of a group of two or more
+-- Two numbers that share a class are in a group of two or more.
 none_left : (groups : ClassTable) (earlier shared : List ℕ) → shared ≡ all_shared groups → length groups.class_of ≡ length earlier → ((n : ℕ) → n < length groups.class_of → class_at groups n < class_count groups)
     → ((s : ShareEarlier groups earlier) (k : ℕ) → k < length shared → get_or shared k 0 ≢ class_at groups s.first) → ShareEarlier groups earlier → ⊥
 none_left groups earlier shared are long known none s =

@@ -12,7 +12,7 @@ use Rattle.dia_check.proofs.AnswerLemmas.{opened_never_fails}
 use Rattle.dia_check.proofs.RestLemmas.{takes_nothing, takes_more, takes_few, takes_no_more, takes_end, takes_limit}
 use Rattle.dia_check.proofs.checking.read_rest.Goals as goal
 
--- a call that read leaves these facts
+-- A call that reads leaves these facts.
 called : {a b : State} → SameFacts a b → IsReadCall {T = Unit {0}} (Ok tt) a b
 called s = record { tells = s.tells; sure = s.sure; writes = s.writes; later = omega (arith, s.reads); ok = s.reads; failed = λ e. absurd (cc); memory = λ h e. absurd (cc) }
 

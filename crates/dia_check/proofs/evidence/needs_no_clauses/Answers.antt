@@ -10,7 +10,7 @@ use Rattle.evidence_rules.specs.declared.refusal.EvidenceKind.{EvidenceKind}
 use Rattle.evidence_rules.specs.declared.refusal.EvidenceKind.TheVariants.{Spent}
 use Rattle.dia_check.proofs.evidence.needs_no_clauses.Goals as goal
 
--- no chains are right over any clauses where none are asked for
+-- An empty log is right over any clauses for a budget of no chains.
 no_chains : (kind : EvidenceKind) (limit : ℕ) (log : List ChainView) → kind ≡ Spent → limit ≡ 0 → log ≡ [] → (clauses : List Clause) → IsRightLog kind clauses limit log
 no_chains kind limit log spent none empty clauses =
     subst (λ (k : EvidenceKind). IsRightLog k clauses limit log) (sym spent)

@@ -6,7 +6,7 @@ use Rattle.text_fields.specs.Fields.{Text}
 use Rattle.dia_check.specs.Reader.{IsReading}
 use Rattle.dia_check.proofs.in_memory.feed_text.Goals as goal
 
--- so many bytes, and those behind them up to a place
+-- The first `done` bytes, and those after them up to `end`.
 further : (text : Text) {done end : ℕ} → done ≤ end → take done text ++ slice_range text done end ≡ take end text
 further text {done} {end} order =
     let end_is : done + (end - done) ≡ end = omega arith in

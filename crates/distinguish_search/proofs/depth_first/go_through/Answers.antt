@@ -32,7 +32,7 @@ climb-requires-clause-tree c =
     leaf_here c.args.sim.now.circuit c.args.sim.now.f c.args.sim.now.g c.args.leaves loop.closed loop.sim loop.stack loop.invariant new c.descend.new.stack c.in_ok-descend.ensures.under_way full
     c.in_ok-tree.tree (subst (IsSearchEnd loop.sim.circuit loop.sim.f loop.sim.g new.cube full) c.in-Leaf.is c.in_ok-descend.ensures.ends) c.in_ok-tree.ensures
 
--- a leaf more is closed, if there was one left
+-- one more leaf is closed, if the limit allows one
 closed_now : (c : After-climb) → c.if-not-full.closed ≡ (if c.loop-stack.closed == c.args.leaves then c.loop-stack.closed else c.loop-stack.closed + 1)
 closed_now c = elim c.if-not-full.branch [
   | then-not-full w ↦ more_then c.loop-stack.closed c.args.leaves c.if-not-full.closed w.if-not-full.true w.closed-is

@@ -11,7 +11,7 @@ use Rattle.pair_miter.proofs.OperandSteps.{variable_at, constant_at, operand_wit
 use Rattle.pair_miter.proofs.rows.write_xor_onward.Goals as goal
 use Rattle.pair_miter.proofs.rows.write_xor_onward.Goals.{in-Some+in_ok-write_xor_of_two, in_default}
 
--- where no variable is left, the last rows are
+-- if no variable is left, only the last rows are
 onward_last : (y : Literal) (part : ℕ) (before : Literal) (last : ℕ) {old now : Clauses} {all : List Clause} {xs : List ℕ} → xs ≡ [] → Remains old now all (xor_onward y part before (last ∷ xs)) → Remains old now all (xor_of_two y before (pos_literal last))
 onward_last y part before last {old} {now} {all} none remains = subst (λ vs. Remains old now all (xor_onward y part before (last ∷ vs))) none remains
 

@@ -7,7 +7,7 @@ use Rattle.pair_scope.specs.Places.{IsShownBy, from_end}
 use Rattle.pair_scope.proofs.RelevantLemmas.{woken_more}
 use Rattle.pair_scope.proofs.relevant.wake_shown.Goals as goal
 
--- the lines of one position more
+-- the lines with one more position
 module _ (c : Circuit) (positions more : List ℕ) (at : ℕ) (are : more ≡ positions ++ at ∷ []) where
   shown_still : (line : ℕ) → IsShownBy c positions line → IsShownBy c more line
   shown_still line (n, m, e) = (n, subst (λ xs. Contains xs n) (sym are) (Contains-append_left positions (at ∷ []) n m), e)

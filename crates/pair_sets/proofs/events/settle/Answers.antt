@@ -10,7 +10,7 @@ use Rattle.pair_sets.proofs.ImageLemmas.{set_again}
 use Rattle.pair_sets.proofs.TrailLemmas.{longer_one}
 use Rattle.pair_sets.proofs.events.settle.Goals as goal
 
--- sets with one number are one
+-- sets with the same number are equal
 same_number : (s t : PairSet) → number_of s ≡ number_of t → s ≡ t
 same_number s t e = sym (set_again s) ∙ ap set_with_number e ∙ set_again t
 

@@ -8,7 +8,7 @@ use Rattle.net_model.specs.Scope.{is_split, is_reached}
 use Rattle.fault_list.specs.Scope.{AreMarksOfTest}
 use Rattle.pair_sets.proofs.reached.is_reached.Goals as goal
 
--- the mark of the line that a position shows, or the site of a fault
+-- a position is reached if the line that it shows is marked or a fault sticks the position
 reached_from : (c : Circuit) (f g : Fault) (marks : List Bool) (positions : List ℕ) (at : ℕ) (mark : Bool) → AreMarksOfTest (is_split c f g) (line_count c) marks → positions ≡ c.positions → All (λ line. line < line_count c) positions → at < length c.positions
     → mark ≡ bit_at marks (get_or positions at 0) → (mark || is_some (stuck_position f at) || is_some (stuck_position g at)) ≡ is_reached c f g at
 unfolding is_reached

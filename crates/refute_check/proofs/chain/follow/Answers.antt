@@ -5,7 +5,6 @@ use Rattle.pair_miter.proofs.SameLiterals.{same_refl, same_trans}
 use Rattle.evidence_rules.proofs.Steps.{ends_first, ends_more, ends_last, stops_unnamed, stops_unresolved}
 use Rattle.refute_check.proofs.chain.follow.Goals as goal
 
--- the step that comes next
 next_step : (at : ℕ) {items steps : List (Literal × ℕ)} {step : Literal × ℕ} → items ≡ steps → at < length items → step ≡ get_or items at step → (at < length steps) × (step ≡ get_or steps at step)
 next_step at {step = step} same inside is = (omega (arith, inside, ap length same), is ∙ ap (λ ss. get_or ss at step) same)
 

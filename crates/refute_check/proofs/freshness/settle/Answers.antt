@@ -15,7 +15,6 @@ is_clause : (clauses : List Clause) (number k : ℕ) (clause : Clause) → IsCla
 is_clause clauses number k clause is named e =
     same_clause clauses (k + 1) clause (get_or clauses k []) (ap (numbered_clause clauses) (sym e) ∙ named) (numbered_at clauses k [] (omega (arith, is.1, e)))
 
--- the unit at the place that was found
 unit_at : {values : List (Option Bool)} {clause : Clause} {unit : Literal} {at : Literal → Literal} → ((d : Literal) → IsUnitAt values clause (at d)) → unit ≡ at unit → IsUnitAt values clause unit
 unit_at {values = values} {clause = clause} {unit = unit} told is = subst (IsUnitAt values clause) (sym is) (told unit)
 

@@ -1,6 +1,6 @@
 use Rattle.std.proofs.Common.{◌≡◌, ◌∙◌, refl, sym, ap, subst}
 use Rattle.std.specs.Prelude.{Result, Err}
-use Rattle.literal_sets.specs.declared.clause.Clause.{Clause}
+use Rattle.refute_check.specs.declared.clause.Clause.{Clause}
 use Rattle.evidence_rules.specs.declared.refusal.Refusal.{Refusal}
 use Rattle.evidence_rules.specs.declared.refusal.CheckFault.{CheckFault}
 use Rattle.evidence_rules.specs.declared.refusal.CheckFault.TheVariants.{Refused}

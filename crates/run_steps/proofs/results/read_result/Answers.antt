@@ -33,7 +33,7 @@ only_reads {name} {a} {b} c is others told = reads_more (is.opened told).only (o
 held : {name : List ℕ} {a b : State} → IsOpened name a b → IsTrue a.tells → get a.world.files name ≡ Some (rest_of b.world)
 held {name} {a} {b} is told = let o = is.opened told in sym o.rest ∙ some_held b.world.rest o.found
 
--- what is left behind what the check read
+-- What is left after what the check read.
 left : {name : List ℕ} {a b : State} (c : State) → IsOpened name a b → Told b c ReadsRest → Told a c (IsLeftBehind kind.Result name)
 left {name} {a} {b} c is read told = (read (is.tells ∙ told)).rest ∙ sym (ap (option_map (drop (limit_of kind.Result + 1))) (held is told))
 

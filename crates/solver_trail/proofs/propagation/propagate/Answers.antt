@@ -9,7 +9,7 @@ use Rattle.solver_trail.proofs.Quiet.{all_quiet}
 use Rattle.solver_trail.proofs.propagation.propagate.Goals as goal
 use Rattle.solver_trail.proofs.propagation.propagate.Goals.{After-follow, After-set_units}
 
--- the watches are of the pool's clauses when the units are set, too
+-- the watches are of the clauses of the pool after the units are set, too
 watches : (c : After-set_units) → HasWatches c.args.attached.now c.args.pool.now.clauses c.set_units.new.set c.args.watches.now
 watches c =
     let w = c.requires.watches in
@@ -45,7 +45,7 @@ returns-in-Some-follow-clause-found c = c.in-Some-follow.ensures.conflict
 pub returns-in-Some-clause-kept : goal.returns-in-Some-clause-kept
 returns-in-Some-clause-kept c = kept_more c.set_units.ensures.set c.args.place.now c.args.place.now (watched_literals c.args.watches.now) c.requires.place c.requires.kept
 
--- what is kept once the units are set and their consequences are
+-- what is kept after the units and their consequences are set
 kept : (c : After-follow) → AreKept c.follow.new.set.literals c.args.place.now c.follow.new.place (watched_literals c.follow.new.watches)
 kept c = c.follow.ensures.kept (kept_more c.set_units.ensures.set c.args.place.now c.args.place.now (watched_literals c.args.watches.now) c.requires.place c.requires.kept)
 

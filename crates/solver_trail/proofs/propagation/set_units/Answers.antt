@@ -68,7 +68,7 @@ none_false assigned_literals clause none = elim (slice_get_cases clause 0).1 [
   | inr short ↦ λ k d less. absurd (omega (arith, less, short.0))
 ]
 
--- so is one of a false literal
+-- a clause of one false literal is false
 single_false : (assigned_literals : List Literal) (clause : Clause) (l : Literal) → length clause < 2 → slice_get clause 0 ≡ Some l → Contains assigned_literals (opposite l) → IsFalseClause assigned_literals clause
 single_false assigned_literals clause l short first is_false = λ k d less.
     let zero : k ≡ 0 = omega (arith, less, short) in

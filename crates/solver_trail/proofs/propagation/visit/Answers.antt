@@ -11,7 +11,6 @@ use Rattle.solver_trail.proofs.Forced.{IsForced, propagates_forced, held_forced,
 use Rattle.solver_trail.proofs.propagation.visit.Goals as goal
 use Rattle.solver_trail.proofs.propagation.visit.Goals.{After-put, Start}
 
--- the other watched literal is of one of the variables
 inside : (c : Start) → c.args.other.variable ≤ c.args.set.now.variables
 inside c =
     let found = has_numbered c.args.pool.now.clauses c.args.number c.requires.from c.requires.below in

@@ -10,7 +10,7 @@ use Rattle.solver_trail.proofs.propagation.visit_list.Goals as goal
 use Rattle.solver_trail.proofs.propagation.visit_list.Goals.{After-opposite-lit}
 use Rattle.solver_trail.specs.Assignment.{no_literal}
 
--- the false literal, by the one at the place
+-- the literal at the place is the opposite of the false literal
 at_place : (c : After-opposite-lit) (d : SetLiteral) → (get_or c.args.set.now.literals c.args.place d).literal ≡ opposite c.opposite-lit.result
 at_place c d =
     let x = c.index-literals-place.result in

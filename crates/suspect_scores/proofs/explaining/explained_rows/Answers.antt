@@ -2,9 +2,9 @@ use Rattle.std.proofs.Common.{◌≡◌, ◌∙◌, ◌≤◌, List, Bool, lengt
 use Rattle.std.specs.Prelude.{slice_range}
 use Rattle.net_model.specs.Circuit.{Circuit}
 use Rattle.table_dicts.proofs.BlockLemmas.{block_end}
-use Rattle.table_dicts.specs.declared.bench.Bench.{Bench}
-use Rattle.suspect_scores.specs.Benches.{AreNoted}
-use Rattle.suspect_scores.proofs.BenchLemmas.{explained_more, explained_all}
+use Rattle.table_dicts.specs.declared.pattern_sim.PatternSim.{PatternSim}
+use Rattle.suspect_scores.specs.NotedRows.{AreNoted}
+use Rattle.suspect_scores.proofs.PatternSimLemmas.{explained_more, explained_all}
 use Rattle.suspect_scores.proofs.explaining.explained_rows.Goals as goal
 
 pub note_lines-requires-clause-wide : goal.note_lines-requires-clause-wide
@@ -36,8 +36,8 @@ loop-first-preserved c =
     let circuit : c.run-end.new.self.good.circuit ≡ s.subject.now = c.run-end.ensures.circuit ∙ so_far.circuit in
     let noted = subst (λ (k : Circuit). AreNoted k vectors logged.columns first c.loop-first.rows c.note_lines.new.rows numbers (length numbers)) circuit c.note_lines.ensures.noted in
     record {
-      bench = c.note_lines.ensures.run.bench;
-      circuit = ap (λ (b : Bench). b.good.circuit) c.note_lines.ensures.bench ∙ circuit;
+      pattern_sim = c.note_lines.ensures.run.pattern_sim;
+      circuit = ap (λ (b : PatternSim). b.good.circuit) c.note_lines.ensures.pattern_sim ∙ circuit;
       within = within;
       aligned = λ h. omega (arith, h, c.run-end.ensures.end, so_far.aligned c.loop-first-test.true);
       explained = explained_more s logged numbers vectors first end block order inside c.requires.numbers c.loop-first.rows c.note_lines.new.rows so_far.explained noted;

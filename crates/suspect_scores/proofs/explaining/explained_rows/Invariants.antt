@@ -1,12 +1,12 @@
 use Rattle.std.specs.Prelude.{◌≡◌, ◌≤◌, ◌<◌, ◌%◌, ◌-◌, length}
-use Rattle.table_dicts.specs.Blocks.{IsBench}
-use Rattle.suspect_scores.proofs.BenchLemmas.{AreExplained}
+use Rattle.table_dicts.specs.Blocks.{IsPatternSim}
+use Rattle.suspect_scores.proofs.PatternSimLemmas.{AreExplained}
 use Rattle.suspect_scores.proofs.explaining.explained_rows.Given as goal
 
 abbrev pub invariant-loop-first : goal.invariant-loop-first
 invariant-loop-first l = record {
-  bench : IsBench l.bench.good.circuit l.bench;
-  circuit : l.bench.good.circuit ≡ l.setting.subject.now;
+  pattern_sim : IsPatternSim l.pattern_sim.good.circuit l.pattern_sim;
+  circuit : l.pattern_sim.good.circuit ≡ l.setting.subject.now;
   within : l.first ≤ length l.patterns;
   aligned : l.first < length l.patterns → l.first % 64 ≡ 0;
   explained : AreExplained l.setting l.logged l.numbers l.first l.rows;

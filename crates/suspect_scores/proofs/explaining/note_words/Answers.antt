@@ -1,5 +1,5 @@
 use Rattle.suspect_scores.specs.Columns.{lane_score}
-use Rattle.suspect_scores.proofs.BenchLemmas.{words_none}
+use Rattle.suspect_scores.proofs.PatternSimLemmas.{words_none}
 use Rattle.suspect_scores.proofs.explaining.note_words.Goals as goal
 
 pub loop-word-init : goal.loop-word-init

@@ -1,5 +1,5 @@
 use Rattle.suspect_scores.specs.Columns.{lane_score}
-use Rattle.suspect_scores.proofs.BenchLemmas.{AreWordsNoted}
+use Rattle.suspect_scores.proofs.PatternSimLemmas.{AreWordsNoted}
 use Rattle.suspect_scores.proofs.explaining.note_words.Given as goal
 
 abbrev pub invariant-loop-word : goal.invariant-loop-word

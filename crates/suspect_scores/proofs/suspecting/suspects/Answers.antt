@@ -6,9 +6,6 @@ use Rattle.suspect_scores.specs.Listed.{representatives, hitting, suspect_of}
 use Rattle.suspect_scores.specs.Scored.{has_hit}
 use Rattle.suspect_scores.proofs.suspecting.suspects.Goals as goal
 
-pub scores-requires-clause-answered : goal.scores-requires-clause-answered
-scores-requires-clause-answered c = c.in_ok-logged.ensures.answered
-
 pub scores-requires-clause-numbers : goal.scores-requires-clause-numbers
 scores-requires-clause-numbers c =
     subst (λ (xs : List ℕ). All (λ number. number < fault_count c.args.setting.now.subject.now) xs) (sym c.as_slice.ensures.value)
@@ -16,10 +13,9 @@ scores-requires-clause-numbers c =
 
 pub returns : goal.returns
 unfolding hitting representatives
-returns c = λ table are.
-    let lines = c.args.partial.now in
+returns c = λ lines table is are.
     let lowest = c.as_slice.ensures.value ∙ c.in_ok-lowest.ensures.lowest in
-    let listed = c.leave_hitting.ensures ∙ ap (filter has_hit) (c.in_ok-listed.ensures lines table c.in_ok-logged.ensures are ∙ ap (map (suspect_of table lines)) lowest) in
+    let listed = c.leave_hitting.ensures ∙ ap (filter has_hit) (c.in_ok-listed.ensures lines table is are ∙ ap (map (suspect_of table lines)) lowest) in
     record {
       ranked = c.put_in_order.new.listed.items;
       are = record {

@@ -11,7 +11,7 @@ returns c = λ rows are.
     let all : c.loop-number.number ≡ c.args.numbers = omega arith in
     subst (λ n. AreFirstsOf rows n c.loop-number.sorted.groups c.loop-number.sorted.firsts.items) all (c.loop-number.invariant.sorted rows are)
 
--- the number comes into its group
+-- The number is put into its group.
 module _ (c : After-group_of-group) where
   inside : c.loop-number.number < length c.args.classes.now.class_of
   inside = omega (arith, c.requires)

@@ -19,7 +19,7 @@ group_entries-requires c =
       entries = c.requires.entries;
     }
 
--- the cells of the groups
+-- The cells of the groups.
 module _ (c : In_ok-grouped) where
   abbrev firsts : List ℕ
   firsts = c.in_ok-sorted.sorted.firsts.items

@@ -17,7 +17,7 @@ loop-class-init c =
       bound = omega arith;
     }
 
--- the class, its group, and how many of the classes before it are in that
+-- The class, its group, and how many of the classes before it are in that group.
 module _ (c : After-as_mut_slice) where
   inside : c.loop-class.class < class_count c.args.classes.now
   inside = omega (arith, c.count-class-end.ensures.value)

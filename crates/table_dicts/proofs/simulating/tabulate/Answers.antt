@@ -2,7 +2,7 @@ use Rattle.std.proofs.Common.{◌≡◌, ◌∙◌, ◌<◌, ◌≤◌, ℕ, Lis
 use Rattle.std.specs.Prelude.{slice_range}
 use Rattle.net_model.specs.Circuit.{Circuit}
 use Rattle.net_model.specs.FaultList.{fault_count}
-use Rattle.table_dicts.specs.declared.bench.Bench.{Bench}
+use Rattle.table_dicts.specs.declared.pattern_sim.PatternSim.{PatternSim}
 use Rattle.table_dicts.specs.Blocks.{IsListedBit, kept_width, AreNumbersSet, AreRightBits}
 use Rattle.table_dicts.proofs.BlockLemmas.{block_length, block_end, listed_moved, right_none, right_more}
 use Rattle.table_dicts.proofs.simulating.tabulate.Goals as goal
@@ -15,8 +15,8 @@ loop-first-init c =
     let patterns = c.args.patterns.now in
     let numbers = c.args.numbers.now in
     record {
-      bench = c.in_ok-bench.ensures.bench;
-      circuit = c.in_ok-bench.ensures.circuit;
+      pattern_sim = c.in_ok-pattern_sim.ensures.pattern_sim;
+      circuit = c.in_ok-pattern_sim.ensures.circuit;
       within = omega arith;
       aligned = λ h. omega arith;
       right = right_none (IsListedBit c.args.kept circuit patterns numbers) (length patterns) (length numbers) (kept_width c.args.kept (length circuit.positions)) c.in_ok-table.table
@@ -26,13 +26,13 @@ loop-first-init c =
 pub run-end-requires-clause-widths : goal.run-end-requires-clause-widths
 run-end-requires-clause-widths c = subst (λ (k : Circuit). All (λ v. length v ≡ k.sources) c.args.patterns.now) (sym c.loop-first.invariant.circuit) c.requires.answerable.widths
 
--- the bench that has run a block is that of the circuit, and has the patterns of the block
+-- The pattern simulator that has run a block is that of the circuit, and has the patterns of the block.
 module _ (c : After-new-in-loop-first) where
-  circuit_is : c.new-in-loop-first.new.bench.good.circuit ≡ c.args.subject.now
-  circuit_is = ap (λ (b : Bench). b.good.circuit) c.new-in-loop-first.ensures.bench ∙ (c.run-end.ensures.circuit ∙ c.loop-first.invariant.circuit)
+  circuit_is : c.new-in-loop-first.new.pattern_sim.good.circuit ≡ c.args.subject.now
+  circuit_is = ap (λ (b : PatternSim). b.good.circuit) c.new-in-loop-first.ensures.pattern_sim ∙ (c.run-end.ensures.circuit ∙ c.loop-first.invariant.circuit)
 
-  vectors_are : c.new-in-loop-first.new.bench.block.vectors ≡ slice_range c.args.patterns.now c.loop-first.first c.run-end.result
-  vectors_are = ap (λ (b : Bench). b.block.vectors) c.new-in-loop-first.ensures.bench ∙ c.run-end.ensures.vectors
+  vectors_are : c.new-in-loop-first.new.pattern_sim.block.vectors ≡ slice_range c.args.patterns.now c.loop-first.first c.run-end.result
+  vectors_are = ap (λ (b : PatternSim). b.block.vectors) c.new-in-loop-first.ensures.pattern_sim ∙ c.run-end.ensures.vectors
 
 pub write_block-requires-clause-numbers : goal.write_block-requires-clause-numbers
 write_block-requires-clause-numbers c =
@@ -66,15 +66,15 @@ loop-first-preserved c =
     let first = c.loop-first.first in
     let end = c.run-end.result in
     let at = (goal.at.loop-first-preserved c).After-new-in-loop-first in
-    let bench = c.new-in-loop-first.new.bench in
+    let pattern_sim = c.new-in-loop-first.new.pattern_sim in
     let order : first ≤ end = omega (arith, c.run-end.ensures.end) in
     let within : end ≤ length patterns = omega (arith, c.run-end.ensures.end) in
     let circuit = circuit_is at in
-    let vectors = bench.block.vectors in
+    let vectors = pattern_sim.block.vectors in
     let set = subst (λ (k : Circuit). AreNumbersSet (IsListedBit kept k vectors numbers) (length vectors) c.loop-first.table c.write_block.new.table (length numbers) first) circuit c.write_block.ensures.set in
     record {
-      bench = c.write_block.ensures.run.bench;
-      circuit = ap (λ (b : Bench). b.good.circuit) c.write_block.ensures.bench ∙ circuit;
+      pattern_sim = c.write_block.ensures.run.pattern_sim;
+      circuit = ap (λ (b : PatternSim). b.good.circuit) c.write_block.ensures.pattern_sim ∙ circuit;
       within = within;
       aligned = λ h. omega (arith, h, c.run-end.ensures.end, so_far.aligned c.loop-first-test.true);
       right = right_more end so_far.right set (listed_moved c.args.subject.now patterns vectors first end (vectors_are at) order within kept numbers)

@@ -4,7 +4,7 @@ use Rattle.table_dicts.proofs.simulating.write_block.Given as goal
 
 abbrev pub invariant-loop-place : goal.invariant-loop-place
 invariant-loop-place l = record {
-  bench : l.bench ≡ record l.initial.bench { sim = l.bench.sim };
-  run : HasRunPatterns l.bench;
-  set : AreNumbersSet (IsListedBit l.kept l.initial.bench.good.circuit l.initial.bench.block.vectors l.numbers) (length l.initial.bench.block.vectors) l.initial.table l.table l.place l.first;
+  pattern_sim : l.pattern_sim ≡ record l.initial.pattern_sim { sim = l.pattern_sim.sim };
+  run : HasRunPatterns l.pattern_sim;
+  set : AreNumbersSet (IsListedBit l.kept l.initial.pattern_sim.good.circuit l.initial.pattern_sim.block.vectors l.numbers) (length l.initial.pattern_sim.block.vectors) l.initial.table l.table l.place l.first;
 }

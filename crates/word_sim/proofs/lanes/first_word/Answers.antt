@@ -5,7 +5,7 @@ use Rattle.std.proofs.lemmas.Bool.Decides.{nat_tests}
 use Rattle.net_model.proofs.SingleWords.{digit_ones}
 use Rattle.word_sim.proofs.lanes.first_word.Goals as goal
 
--- a place is among those that are left where the lane is below all
+-- a place is below the number of lanes that are left exactly if its lane is below `live`
 left_test : (left start at live : ℕ) → left ≡ live - start → nat_lt at left ≡ nat_lt (start + at) live
 left_test left start at live e = grind (arith, nat_tests)
 

@@ -9,7 +9,7 @@ use Rattle.dict_rows.proofs.BlockWordLemmas.{number_as, block_set}
 use Rattle.dict_rows.proofs.answer_table.AnswerTable.copy_block.Goals as goal
 use Rattle.dict_rows.proofs.answer_table.AnswerTable.copy_block.Goals.{After-div_ceil-words, After-block}
 
--- the block is within the table, and its words hold it
+-- The block is within the table, and its words hold it.
 module _ (c : After-div_ceil-words) where
   inside : (c.args.first + c.args.count ≤ c.self.inside.patterns) × (c.args.number < c.self.inside.numbers)
   inside = in_fields c.self.inside c.self.invariant c.args.self.now c.self.view_is (c.args.first + c.args.count) c.args.number c.requires.within c.requires.number
@@ -23,7 +23,7 @@ module _ (c : After-div_ceil-words) where
   tight : c.div_ceil-words.result * 64 < c.args.count * c.self.inside.positions + 64
   tight = omega (arith, c.div_ceil-words.ensures, c.width_of.ensures)
 
--- the sizes of the block's fields
+-- The sizes of the block's fields.
 module _ (c : After-block) where
   block_patterns : c.block.inside.patterns ≡ length c.args.block.now.rows
   block_patterns = sym (patterns_are c.block.inside c.block.invariant) ∙ (ap (λ (t : Answers). length t.rows) c.block.view_is)

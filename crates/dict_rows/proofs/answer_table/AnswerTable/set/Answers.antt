@@ -10,7 +10,7 @@ pub set_bit-requires-clause-at : goal.set_bit-requires-clause-at
 set_bit-requires-clause-at c =
     omega (arith, bit_inside c.self.inside c.self.invariant c.args.self.now c.self.view_is c.args.pattern c.args.number c.args.position c.requires.pattern c.requires.number c.requires.position, c.place-at.ensures)
 
--- the cells after the bit was set
+-- The cells after the bit was set.
 module _ (c : goal.After-set_bit) where
   inside : (c.args.pattern + 1 ≤ c.self.inside.patterns) × (c.args.number < c.self.inside.numbers)
   inside = in_fields c.self.inside c.self.invariant c.args.self.now c.self.view_is (c.args.pattern + 1) c.args.number (omega (arith, c.requires.pattern)) c.requires.number

@@ -6,7 +6,7 @@ use Rattle.dict_rows.proofs.RowLemmas.{zeros_are, zero_bits}
 use Rattle.dict_rows.proofs.TableLemmas.{patterns_are, bit_is, no_bit}
 use Rattle.dict_rows.proofs.answer_table.AnswerTable.zeros.Goals as goal
 
--- the fields, and what is true of them
+-- The fields, and what is true of them.
 module _ (c : goal.In_ok-zeros) where
   cells_are : AreRows c.args.numbers (c.args.patterns * c.args.positions) c.in_ok-zeros.field-0
   cells_are =

@@ -7,7 +7,7 @@ use Rattle.event_queue.proofs.Words.{AreNone, words_before, none_left, all_words
 use Rattle.event_queue.proofs.Marks.{marks_count, none_is, low_digits, one_less}
 use Rattle.event_queue.proofs.queue.NumberQueue.take_lowest.Goals as goal
 
--- no number is left where the search came to the end
+-- no number is left if the search came to the end
 nothing : (c : goal.After-self-then-at-self-1) → AreNone c.self.inside.words.items
 nothing c =
     let words = c.self.inside.words.items in
@@ -36,7 +36,6 @@ returns-then-at-self-clause-cases c =
     let empty = none_is c.self.inside.count c.self.inside.words.items c.self.invariant.spare (nothing c) in
     (subst IsEmpty c.self.view_is empty, empty)
 
--- a word that isn't 0
 record IsFound (words : List ℕ) (at word : ℕ) : Type 0 where
   inside : at < length words
   read : word ≡ get_or words at 0

@@ -90,7 +90,7 @@ wait-requires-clause-whole c = (kept (goal.at.wait-requires-clause-whole c).Afte
 pub wait-requires-clause-numbers : goal.wait-requires-clause-numbers
 wait-requires-clause-numbers c = (kept (goal.at.wait-requires-clause-numbers c).After-as_slice-numbers).finer.numbers ∙ c.requires.told.numbers
 
--- those that wait anew
+-- the numbers that wait again
 again : (c : After-as_slice-numbers) → c.as_slice-numbers.result.now ≡ c.put_in_order.new.self.numbers.items
 again c = c.as_slice-numbers.ensures.value ∙ c.tell.ensures.numbers
 

@@ -59,7 +59,7 @@ judge_lane-requires-clause-waits c =
     waits_there c.requires.scan c.requires.stands c.live-live.ensures.block lane (lane_is views.After-fullest-lane (row_is views.After-and-apart)).0 c.wait_at.new.self.lanes.items (waits.count ∙ c.requires.scan.lanes)
     (rw (numbers, rows) at waits.right) (rw (numbers, rows) at waits.all)
 
--- all but the lists is as it was
+-- all is as before except the lists
 same : (c : After-as_mut_slice-rows) → c.judge_lane.new.self ≡ record c.args.self.now { waiting = c.judge_lane.new.self.waiting; leaving = c.judge_lane.new.self.leaving; tally = c.count_leaving.new.tally }
 same c = c.judge_lane.ensures.same
 

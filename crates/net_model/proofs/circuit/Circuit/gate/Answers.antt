@@ -12,7 +12,6 @@ use Rattle.net_model.proofs.circuit.Circuit.gate.Goals as goal
 abbrev shown : Inside → Circuit
 shown a = circuit_with a.sources a.gates.items a.positions.items
 
--- where a line's gate stands
 sources_are : (a : Inside) (circuit : Circuit) → shown a ≡ circuit → a.sources ≡ circuit.sources
 sources_are a circuit view = ap (λ (c : Circuit). c.sources) view
 

@@ -7,7 +7,7 @@ use Rattle.net_model.proofs.users.GrowingLists+u32.renumber.Goals as goal
 pub loop-line-init : goal.loop-line-init
 loop-line-init c = rw (← c.self.view_is) (renumbered_none (λ user. slice_index c.args.numbers.now user) (map (λ (list : Vec ℕ Global). list.items) c.self.inside.lists.items))
 
--- the users of a line that isn't reached are as they were
+-- the users of a line that isn't reached are as before
 still : (f : ℕ → ℕ) (line : ℕ) (old : List (List ℕ)) (lists : List (Vec ℕ Global)) (list : Vec ℕ Global) → AreRenumbered f line old (map (λ (list : Vec ℕ Global). list.items) lists) → line < length old
     → list ≡ get_or lists line list → list.items ≡ get_or old line []
 still f line old lists list are inside read =

@@ -25,7 +25,7 @@ use Rattle.pair_miter.proofs.Operands.{length-gate_operands, pins_relevant, oper
 use Rattle.pair_miter.proofs.TidyParts.{tidy_none}
 use Rattle.pair_miter.proofs.writer.Writer.write_copy.Goals as goal
 
--- the stem of a copy, and the gate of a line, as they were asked for
+-- the stem of a copy and the gate of a line, as the calls return them
 stem : (line : ℕ) {fault given : Fault} {asked is : Option Bool} → given ≡ fault → asked ≡ stuck_stem given line → asked ≡ is → stuck_stem fault line ≡ is
 stem line same told is = ap (λ fault. stuck_stem fault line) (sym same) ∙ (sym told ∙ is)
 

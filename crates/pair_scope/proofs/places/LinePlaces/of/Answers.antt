@@ -7,7 +7,7 @@ use Rattle.net_model.proofs.Places.{places_are_gates}
 use Rattle.pair_scope.proofs.PlaceLemmas.{lines_count, lines_apart, lines_inside}
 use Rattle.pair_scope.proofs.places.LinePlaces.of.Goals as goal
 
--- the lines by the circuit's own words
+-- the lines in terms of the circuit
 lines_are : (c : Circuit) (wiring : Wiring) (lines order : List ℕ) (sources : ℕ) → lines ≡ range_with_len 0 sources ++ order → sources ≡ c.sources → order ≡ wiring.order → lines ≡ range_with_len 0 c.sources ++ wiring.order
 lines_are c wiring lines order sources made first same = made ∙ (λ i. range_with_len 0 (first i) ++ same i)
 

@@ -11,7 +11,7 @@ use Rattle.pair_sets.proofs.GateLemmas.{by_operation}
 use Rattle.pair_sets.proofs.fault_pair.FaultPair.gate_pairs.Goals as goal
 use Rattle.pair_sets.proofs.fault_pair.FaultPair.gate_pairs.Goals.{After-inverts, in-Folded, in-Chosen}
 
--- what the gate's operation gives on what its pins see
+-- the pairs are those that the gate's operation gives for what its pins see
 operation_is : (c : After-inverts) → c.match-operation.pairs ≡ operation_pairs (operation_of c.args.gate.now.kind) (seen_pairs c.args.self.now.f c.args.self.now.g c.args.sets.now c.args.line c.args.gate.now.pins)
 operation_is c =
     let of_pins : Operation → List ℕ → PairSet = λ operation pins. operation_pairs operation (seen_pairs c.args.self.now.f c.args.self.now.g c.args.sets.now c.args.line pins) in
@@ -21,7 +21,7 @@ operation_is c =
       | in-Chosen w ↦ w.pairs-is ∙ w.chosen-pairs.ensures ∙ ap (of_pins Chosen) c.as_slice-pins.ensures ∙ ap (λ o. of_pins o pins) w.in-Chosen.ensures
     ]
 
--- it is inverted or not, as the kind says
+-- they are inverted if the kind inverts
 by_kind : (kind : Kind) (seen : List PairSet) (turns : Bool) → inverts kind ≡ turns → (if turns then gate_pairs Not (operation_pairs (operation_of kind) seen ∷ []) else operation_pairs (operation_of kind) seen) ≡ gate_pairs kind seen
 by_kind kind seen turns e = sym (by_operation kind seen ∙ ap (λ b. if b then gate_pairs Not (operation_pairs (operation_of kind) seen ∷ []) else operation_pairs (operation_of kind) seen) e)
 

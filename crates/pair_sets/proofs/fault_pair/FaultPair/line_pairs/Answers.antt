@@ -16,7 +16,7 @@ use Rattle.pair_sets.proofs.fault_pair.FaultPair.line_pairs.Goals.{After-gate_pa
 pub gate_pairs-pairs-requires-clause-few : goal.gate_pairs-pairs-requires-clause-few
 gate_pairs-pairs-requires-clause-few c = omega (arith, few_pins c.args.self.now.circuit.now c.gate.ensures.circuit c.args.line c.gate.result.now c.gate.ensures.value)
 
--- what the gate of the line gives, without the line's stem
+-- the pairs that the gate of the line gives, without what the faults stick at its stem
 driven : (c : After-gate_pairs-pairs) (cube : Cube)
     → c.gate_pairs-pairs.result ≡ option_map_or (λ gate. gate_pairs gate.kind (seen_pairs c.args.self.now.f c.args.self.now.g c.args.sets.now c.args.line gate.pins)) (gate_at c.args.self.now.circuit.now c.args.line) (source_pairs cube c.args.line)
 driven c cube =

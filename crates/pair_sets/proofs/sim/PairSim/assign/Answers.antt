@@ -55,7 +55,7 @@ change_source-requires-clause-right c =
 pub recount-requires-clause-width : goal.recount-requires-clause-width
 recount-requires-clause-width c = c.change_source.ensures.longer.whole ∙ (right_of c.self.inside c.self.invariant).right.whole
 
--- the changes that are looked at are those that were added
+-- the changes starting at the old number of changes are those that were added
 added_from : (old new : PairTrail) (longer : IsLonger old new) (start : ℕ) → start ≡ length old.changes.items → drop start new.changes.items ≡ longer.added
 added_from old new longer start e = ap (drop start) longer.extends ∙ drop_at old.changes.items longer.added start (sym e)
 

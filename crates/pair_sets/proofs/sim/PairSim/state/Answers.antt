@@ -14,7 +14,7 @@ use Rattle.pair_sets.proofs.TallyLemmas.{all_of_shown, none_found}
 use Rattle.pair_sets.proofs.sim.PairSim.state.Goals as goal
 
 module _ (a : Inside) (ready : ArePairSimFields a) where
-  -- what is kept says the same of the positions
+  -- the kept pairs pass the test exactly if those of the reached positions do
   all_of : (test : PairSet → Bool) → test free_pairs ≡ true → list_all test a.tally.shown ≡ list_all (λ at. test (position_pairs a.pair.circuit.now a.pair.f a.pair.g a.trail.sets.items at)) a.tally.reached.items
   all_of test free =
       all_of_shown a.pair.circuit.now a.pair.f a.pair.g test free a.trail.sets.items a.tally.shown ready.tally.places.whole ready.shown

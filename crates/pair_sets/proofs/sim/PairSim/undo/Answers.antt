@@ -77,7 +77,7 @@ recount-requires-clause-others c = λ at h none.
     (subst (All (λ (change : Change). change.line ≢ get_or circuit.positions at 0)) are none)
     c.restore.ensures.sets
 
--- a level begins at one of the changes
+-- a level starts at one of the changes
 level_start : (a : Inside) (ready : ArePairSimFields a) (rest : List Level) (level : Level) → a.levels.items ≡ rest ++ level ∷ [] → level.start ≤ length a.trail.changes.items
 level_start a ready rest level e =
     let levels = subst (λ levels. AreCubeLevels a.pair.circuit.now a.pair.f a.pair.g (vec_capacity a.trail.changes) levels a.trail.changes.items a.trail.sets.items) (ap reverse e ∙ reverse-append rest (level ∷ [])) ready.levels in

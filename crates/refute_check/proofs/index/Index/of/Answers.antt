@@ -8,7 +8,6 @@ use Rattle.refute_check.specs.Index.{IsIndexOf}
 use Rattle.refute_check.proofs.IndexLemmas.{places_for}
 use Rattle.refute_check.proofs.index.Index.of.Goals as goal
 
--- the clause of the next number
 clause_at : (clauses : List Clause) (at : ℕ) (clause : Clause) → numbered_clause clauses (at + 1) ≡ Some clause → at < length clauses → clause ≡ get_or clauses at []
 clause_at clauses at clause named inside = same_clause clauses (at + 1) clause (get_or clauses at []) named (numbered_at clauses at [] inside)
 

@@ -1,7 +1,7 @@
 use Rattle.std.proofs.Common.{take, subst}
 use Rattle.std.proofs.lemmas.List.{take_all}
 use Rattle.refute_check.specs.Reached.{IsReached}
-use Rattle.literal_sets.proofs.Resolvents.{next_begun}
+use Rattle.refute_check.proofs.Resolvents.{next_begun}
 use Rattle.refute_check.proofs.reached.Reached.begin.Goals as goal
 
 pub loop-lit-preserved : goal.loop-lit-preserved

@@ -9,7 +9,7 @@ use Rattle.clause_pool.proofs.Literals.{same_by_code}
 use Rattle.pair_miter.specs.Resolution.{clause_without, resolvent}
 use Rattle.refute_check.specs.Reached.{IsReached}
 use Rattle.refute_check.proofs.HeldLemmas.{contained}
-use Rattle.literal_sets.proofs.Resolvents.{next_same, next_more, cannot_other, not_contained}
+use Rattle.refute_check.proofs.Resolvents.{next_same, next_more, cannot_other, not_contained}
 use Rattle.refute_check.proofs.ReachedLemmas.{reached_without, can_from, cannot_mark}
 use Rattle.refute_check.proofs.reached.Reached.resolve.Goals as goal
 

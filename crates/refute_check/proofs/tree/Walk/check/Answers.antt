@@ -13,7 +13,7 @@ use Rattle.evidence_rules.specs.TreeRefusal.{TreeRefused}
 use Rattle.refute_check.proofs.WalkLemmas.{come_more, token_refused, end_refused, counts_refused, tree_right}
 use Rattle.refute_check.proofs.tree.Walk.check.Goals as goal
 
--- what is answered is the refusal that was made
+-- what is returned is the refusal that was made
 refused_so : (c : Circuit) (f g : Fault) (kind : EvidenceKind) (limit : ℕ) (tokens : List Token) (fault : CheckFault) (made refusal : Refusal)
     → fault ≡ Refused made → IsErrOf {T = Unit {0}} {E = CheckFault} (Err fault) (Refused refusal) → TreeRefused c f g kind limit tokens made → TreeRefused c f g kind limit tokens refusal
 refused_so c f g kind limit tokens fault made refusal is answered refused =

@@ -16,7 +16,7 @@ one g c = get_or c.args.self.now.patterns.now c.args.pattern c.index-self-patter
 known : (g : given.Over) (c : After-index-self-pattern g) → AreCandidates c.args.self.now.classes.now (get_or g.rows c.args.pattern []) (one g c)
 known g c = c.requires.0.numbered.each c.args.pattern c.index-self-pattern.result c.requires.1.0
 
--- whatever there would be behind the last pattern
+-- whatever default is taken after the last pattern
 any : (g : given.Over) (c : After-index-self-pattern g) (d : Candidates) → one g c ≡ get_or c.args.self.now.patterns.now c.args.pattern d
 any g c d = get_or_default c.args.self.now.patterns.now c.args.pattern c.index-self-pattern.result d (omega (arith, c.requires.0.numbered.count, c.requires.1.0))
 

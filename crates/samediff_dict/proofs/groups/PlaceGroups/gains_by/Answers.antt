@@ -23,7 +23,7 @@ size_of-part-requires-clause-within c =
     let long : length c.as_slice-part_sizes.result.now ≡ c.args.cells.now.count = ap length c.as_slice-part_sizes.ensures.value ∙ c.requires.alike.count_is in
     subst (λ n. AreBelow c.as_slice-parts.result.now n) (sym long) (subst (λ (gs : List ℕ). AreBelow gs c.args.cells.now.count) (sym c.as_slice-parts.ensures.value) c.requires.cells.within)
 
--- the size of a group is that of the part with the others that answer otherwise
+-- the size of a group is that of the part plus the others that answer otherwise
 split : (c : After-size_of-part) → c.size_of-size.result ≡ c.size_of-part.result + others_of c.args.self.now.group_of.items c.args.answers.now (length c.args.answers.now) c.loop-place.place
 split c =
     let groups = c.args.self.now.group_of.items in

@@ -24,7 +24,7 @@ push_reserved-requires-2 c =
     let i = c.self.inside in
     omega (arith, length_le c.self.invariant.placed, i.entries.ok.0)
 
--- the slot of the literal was open
+-- the slot of the literal's variable was open
 free : (c : After-push_reserved-2) → get_or c.self.inside.slots.items c.args.lit.variable None ≡ None
 free c =
     let i = c.self.inside in

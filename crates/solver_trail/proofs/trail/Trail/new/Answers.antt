@@ -5,7 +5,7 @@ use Rattle.solver_trail.specs.Assignment.{Assignment}
 use Rattle.solver_trail.specs.Watches.{AreWatchesListed}
 use Rattle.solver_trail.proofs.trail.Trail.new.Goals as goal
 
--- where nothing is watched, all lists are empty
+-- if nothing is watched, all lists are empty
 none_listed : (n : ℕ) → AreWatchesListed (replicate n None) [] [] []
 none_listed n = record {
   size = refl;

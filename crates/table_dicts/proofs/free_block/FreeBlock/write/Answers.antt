@@ -10,7 +10,7 @@ use Rattle.table_dicts.proofs.free_block.FreeBlock.write.Goals.{After-live-count
 
 module _ (c : After-live-count) where
   abbrev right : ℕ → ℕ → Bool → Type 0
-  right = λ lane. IsKeptBit c.args.kept c.args.bench.now.good.circuit c.args.bench.now.block.vectors lane c.args.number
+  right = λ lane. IsKeptBit c.args.kept c.args.pattern_sim.now.good.circuit c.args.pattern_sim.now.block.vectors lane c.args.number
 
   inside : c.args.first + c.live-count.result ≤ length c.args.table.now.rows
   inside = omega (arith, c.requires.fits.within, c.live-count.ensures.value)

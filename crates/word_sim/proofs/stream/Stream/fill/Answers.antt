@@ -8,7 +8,7 @@ use Rattle.word_sim.specs.BlockFields.{columns}
 use Rattle.word_sim.proofs.Drawn.{is_after, drawn_blocks}
 use Rattle.word_sim.proofs.stream.Stream.fill.Goals as goal
 
--- the stream and the block have so many sources
+-- the stream and the block have the same number of sources
 same_sources : (c : goal.After-block-2-1) (sources done : ℕ) → stream_with c.self.inside.sources c.self.inside.first c.self.inside.rng ≡ stream_at sources done → length c.deref_mut.result.now ≡ sources
 same_sources c sources done at =
     let own : c.self.inside.sources ≡ sources = ap (λ (s : StreamState). s.sources) at in

@@ -1,4 +1,0 @@
-use Rattle.table_dicts.proofs.bench.Bench.lanes.Goals as goal
-
-pub returns-in-Bits : goal.returns-in-Bits
-returns-in-Bits c = rw c.in-Bits.is c.shown.ensures

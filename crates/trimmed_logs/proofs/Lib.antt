@@ -1,4 +1,0 @@
-pub mod MarkSteps
-pub mod TrimSteps
-pub mod TrimEnds
-pub mod Shortened
