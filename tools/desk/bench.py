@@ -1,4 +1,4 @@
-"""Netlists in the .bench format, read and simulated. They are taken to be right: the program says where one isn't."""
+"""Reads netlists in the .bench format, and simulates them. They are assumed to be right: the program says where one isn't."""
 
 from __future__ import annotations
 
@@ -10,9 +10,9 @@ TOKEN = re.compile(r"#[^\r\n]*|[(),=]|[^\s(),=#]+")
 
 
 class Netlist:
-    """The full-scan cut of a netlist: `sources` and `positions` hold pairs of what each is (input, output, cell) and its name or the
-    cell's, `shown` the name that each position shows, `kinds` what each source is by its name, and `gates` the gate word and the pins of each
-    driven name."""
+    """The full-scan cut of a netlist. `sources` and `positions` have a pair for each: its kind (input, output or cell), and its name or that of
+    the cell. `shown` has the name that each position shows, `kinds` the kind of each source by its name, and `gates` the gate word and the
+    pins of each driven name."""
 
     def __init__(self, text: str) -> None:
         tokens = [it for it in TOKEN.findall(text) if not it.startswith("#")]
@@ -36,7 +36,7 @@ class Netlist:
 
     @functools.cached_property
     def order(self) -> list[str]:
-        """The driven names, each behind those of its pins."""
+        """The driven names, each after those of its pins."""
         done, order = {it for _, it in self.sources}, []
         for root in self.gates:
             stack = [root]
@@ -53,12 +53,12 @@ class Netlist:
 
     @functools.cached_property
     def place(self) -> dict[str, int]:
-        """The place of each driven name in that order."""
+        """The place of each driven name in `order`."""
         return {name: at for at, name in enumerate(self.order)}
 
     @functools.cached_property
     def levels(self) -> dict[str, int]:
-        """How many gates stand before each name, on the longest way: 0 for a source."""
+        """The number of gates on the longest path to each name: 0 for a source."""
         found = {name: 0 for _, name in self.sources}
         for name in self.order:
             found[name] = 1 + max((found[it] for it in self.gates[name][1]), default=0)
@@ -71,7 +71,7 @@ class Netlist:
 
     @functools.cached_property
     def readers(self) -> dict[str, list[tuple[str, int]]]:
-        """The gates that read each name, in order, with the pin that does."""
+        """For each name the gates that read it, in order, each with the pin."""
         found = {}
         for gate, (_, pins) in self.gates.items():
             for pin, name in enumerate(pins):
@@ -79,7 +79,7 @@ class Netlist:
         return found
 
     def cone(self, names: Iterable[str]) -> set[str]:
-        """The names whose values these can change, these too."""
+        """The names whose values the given names can change, and the given names."""
         found, stack = set(names), list(names)
         while stack:
             for gate, _ in self.readers.get(stack.pop(), ()):
@@ -90,7 +90,7 @@ class Netlist:
 
 
 def netlist_of(text: str, name: str) -> Netlist:
-    """The netlist of a file's text. A ValueError says that it is none."""
+    """The netlist of a file's text. Raises a ValueError if the text is none."""
     try:
         return Netlist(text)
     except (IndexError, ValueError):
@@ -98,7 +98,7 @@ def netlist_of(text: str, name: str) -> Netlist:
 
 
 def read(name: str) -> Netlist:
-    """The netlist of a file. A ValueError says that it is none."""
+    """The netlist of a file. Raises a ValueError if the file is none."""
     with open(name, encoding="latin-1") as file:
         return netlist_of(file.read(), name)
 
@@ -135,7 +135,8 @@ def values(netlist: Netlist, vectors: list[str], forced: dict[str, int] | None =
 
 
 def behind(netlist: Netlist, value: dict[str, int], now: dict[str, int], full: int) -> dict[str, int]:
-    """Words that a defect gives names, with the words of all names that these change, from the values without them."""
+    """The words `now` that a defect gives to names, and the words of all names that these can change. `value` has the words without the
+    defect."""
     now = dict(now)
     for name in sorted(netlist.cone(now) - now.keys(), key=netlist.place.get):
         word, pins = netlist.gates[name]
@@ -144,7 +145,7 @@ def behind(netlist: Netlist, value: dict[str, int], now: dict[str, int], full: i
 
 
 def changed(netlist: Netlist, value: dict[str, int], fault: list[str], full: int) -> dict[str, int]:
-    """The values of the names that a fault changes, from those without it. A fault is its name's fields."""
+    """The words of the names that a fault can change. `fault` has the fields of its name, and `value` the words without it."""
     kind, *site, stuck = fault
     stuck = full if stuck == "1" else 0
     if kind == "O":
@@ -158,8 +159,8 @@ def changed(netlist: Netlist, value: dict[str, int], fault: list[str], full: int
 
 
 def answers(netlist: Netlist, vectors: list[str], fault: list[str] | None = None, free: dict[str, int] | None = None) -> list[int]:
-    """What each position shows: a word with a bit for each vector, the first one lowest. A fault is its name's fields; `free` has the
-    values without it, where they are known."""
+    """What each position shows: a word with a bit for each vector, the first one lowest. `fault` has the fields of a fault's name, and `free`
+    the values without it, if they are known."""
     full = (1 << len(vectors)) - 1
     value = free or values(netlist, vectors)
     now = changed(netlist, value, fault, full) if fault else {}

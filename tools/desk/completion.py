@@ -1,4 +1,4 @@
-"""What bash and zsh complete behind `diatest`, made from the table of commands.
+"""What bash and zsh complete after `diatest`, made from the table of commands.
 
 completion.py bash|zsh prints it."""
 
@@ -65,7 +65,7 @@ def options_of(name: str) -> list[tuple[str, str]]:
 
 
 def quoted(text: str) -> str:
-    """A text between quotes of zsh, in which brackets and colons mean nothing."""
+    """A text for between single quotes of zsh, with brackets and colons escaped."""
     for it in "[]:":
         text = text.replace(it, "\\" + it)
     return text.replace("'", "'\\''")
@@ -79,7 +79,7 @@ def bash() -> str:
 
 
 def zsh_case(name: str) -> str:
-    """What zsh completes behind a command."""
+    """What zsh completes after a command."""
     values = {f"--{it.name}": ":file:_files" if isinstance(it, FileOption) else ":number:" for it in COMMANDS[name].options}
     words = [f"'{option}[{quoted(work)}]{values.get(option, '')}'" for option, work in options_of(name)]
     words += [f"'1:kind:({' '.join(KINDS)})'"] if name == "dict" else []

@@ -1,6 +1,6 @@
-"""What a result and a list of vectors detect, in counts. The counts are over lines that `check` accepts and over those that `grade` makes.
+"""Counts what a result and a list of vectors detect. It reads results that `check` accepts or `grade` makes.
 
-A share is cut behind its second digit and never rounded up, so that 100.00 is all."""
+A share is cut after its second digit and never rounded up, so that only all gives 100.00."""
 
 from __future__ import annotations
 
@@ -31,7 +31,7 @@ class Share(NamedTuple):
 
 
 class Counts(NamedTuple):
-    """What some faults come to."""
+    """The counts of some faults."""
 
     faults: int
     detected: int
@@ -42,20 +42,21 @@ class Counts(NamedTuple):
     fault_efficiency: Share
     classes: int  # of detected faults
     classes_of_one_fault: int
-    final_classes: int  # those that no vector whatever cuts
+    final_classes: int  # those that no vector splits
     faults_in_final_classes: int
     largest_class: int
     pairs_apart: Share
 
 
 class Graded(NamedTuple):
-    """A result of the patterns that are asked about, and the numbers by which they are known."""
+    """A result, and the numbers by which its patterns are known."""
 
     result: Result
     known_as: List[int]  # by pattern of the result
 
     def first(self) -> Dict[int, Optional[int]]:
-        """By class the pattern that first shows its faults: the one at which what they are part of left the class of the good chip."""
+        """By class the pattern that first shows its faults: the one that split it, or the class that it was a part of, off the class of the
+        good chip. For the class of the good chip it is None."""
         found: Dict[int, Optional[int]] = {0: None}
         for it, (parent, pattern) in sorted(self.result.births.items()):
             found[it] = found[parent] if parent else pattern
@@ -71,24 +72,24 @@ def by_class(numbers: List[int], classes: Dict[int, int]) -> Dict[int, List[int]
 
 
 def is_untestable(number: int, result: Result) -> bool:
-    """Whether a result shows that a fault shows at no vector."""
+    """Whether a result shows that no vector detects a fault."""
     return result.classes[number] == 0 and result.marks[number] == "equal"
 
 
 def is_final(members: List[int], result: Result) -> bool:
-    """Whether no vector tells the members of a class apart, by a result."""
+    """Whether a result shows that no vector distinguishes the members of a class."""
     if len(members) == 1:
         return True
     return len({result.classes[it] for it in members}) == 1 and all(result.marks[it] != "open" for it in members)
 
 
 def pairs(count: int) -> int:
-    """How many pairs so many have."""
+    """The number of pairs among `count` faults."""
     return count * (count - 1) // 2
 
 
 def counted(numbers: List[int], graded: Result, result: Result) -> Counts:
-    """What these faults come to by the classes of one result, and by what another shows of faults that no vector tells apart."""
+    """The counts of these faults. `graded` has their classes; `result` shows which faults no vector detects or distinguishes."""
     faults, groups = len(numbers), by_class(numbers, graded.classes)
     together = sum(pairs(len(it)) for it in groups.values())
     detected = faults - len(groups.pop(0, []))
@@ -112,7 +113,7 @@ def counted(numbers: List[int], graded: Result, result: Result) -> Counts:
 
 
 def collapsed(numbers: List[int], names: Names) -> List[int]:
-    """The roots of faults."""
+    """The roots of faults, each once."""
     return sorted({names[it][0] for it in numbers})
 
 
@@ -134,8 +135,8 @@ def fault_lines(numbers: List[int], names: Names, asked: Graded, result: Result)
 
 
 class Step(NamedTuple):
-    """A pattern of the curve: its number in the list, if there is one; the faults that it shows first; those shown up to it; and the classes
-    up to it, that of the good chip too."""
+    """A pattern of the curve, and its number in the list, if it is in one. `shown` counts the faults that it is the first to show, `sum` the
+    faults that are shown so far, and `classes` the classes so far, with that of the good chip."""
 
     pattern: int
     vector: Optional[int]

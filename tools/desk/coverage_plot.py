@@ -1,4 +1,4 @@
-"""The curve of coverage over patterns as a picture: SVG, without anything from outside."""
+"""Draws the curve of coverage over patterns: SVG that needs nothing from outside."""
 
 from __future__ import annotations
 
@@ -26,7 +26,7 @@ def line(x: float, y: float, to_x: float, to_y: float, colour: str, more: str = 
 
 
 def spacing(count: int) -> int:
-    """The distance of ticks along so many patterns: 1, 2 or 5 times a power of ten."""
+    """The distance of ticks along `count` patterns: 1, 2 or 5 times a power of ten."""
     power = 1
     while True:
         for it in (1, 2, 5):
@@ -51,7 +51,7 @@ class Plot:
         return round(TOP + UP * (1 - faults / max(self.counts.faults, 1)), 1)
 
     def axes(self) -> Iterator[str]:
-        """The grid, the numbers at it, and what they are."""
+        """The grid, its numbers, and the names of the axes."""
         for percent in range(0, 101, 20):
             y = round(TOP + UP * (1 - percent / 100), 1)
             yield line(LEFT, y, WIDE - RIGHT, y, GRID)
@@ -64,7 +64,7 @@ class Plot:
         yield text(16, middle, "fault coverage, percent", f' text-anchor="middle" transform="rotate(-90 16 {middle:g})"')
 
     def stretches(self) -> List[Tuple[str, List[Point]]]:
-        """The curve in stretches of one colour. Where it stays level for several patterns only the ends are points."""
+        """The curve in stretches of one colour. If it stays level for several patterns, only the ends are points."""
         found: List[Tuple[str, List[Point]]] = []
         for it in self.steps:
             colour = FOUND if self.listed and it.vector is None else LISTED
@@ -83,7 +83,7 @@ class Plot:
             yield f'<polyline points="{places}" fill="none" stroke="{colour}" stroke-width="2.2" stroke-linejoin="round"/>'
 
     def reach(self) -> Iterator[str]:
-        """How far the curve can come, if some faults are untestable."""
+        """The highest level that the curve can reach, if some faults are untestable."""
         testable = self.counts.faults - self.counts.untestable
         if self.counts.untestable:
             yield line(LEFT, self.y(testable), WIDE - RIGHT, self.y(testable), REACHED, ' stroke-dasharray="6 4"')
@@ -91,7 +91,7 @@ class Plot:
             yield text(LEFT + 40, self.y(testable) + 16, f"{share} %: all but the untestable", f' fill="{REACHED}"')
 
     def key(self) -> Iterator[str]:
-        """The title, where the curve ends, and what its colours say."""
+        """The title, where the curve ends, and what its colours mean."""
         yield text(LEFT, 22, self.title, ' font-weight="bold" font-size="15"')
         coverage = self.counts.fault_coverage.percent()
         yield text(LEFT, 42, f"{self.counts.detected:,} of {self.counts.faults:,} faults are detected by {len(self.steps):,} patterns: {coverage} %")

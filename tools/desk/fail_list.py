@@ -1,6 +1,6 @@
-"""A tester's list of failing bits: CSV with a heading, and remarks that say what the options of tools/faillog say.
+"""Reads a tester's list of failing bits: CSV with a heading, and remarks that mean what the options of tools/faillog mean.
 
-It is read line by line, so that each line has its place. A quoted field that goes over a line isn't closed."""
+It is read line by line, so that the place of each fail is known. So a quoted field can't go on in the next line."""
 
 from __future__ import annotations
 
@@ -23,7 +23,7 @@ LIMITS = ("limit", "pin-limit")
 
 
 class Fail(NamedTuple):
-    """A line of the list, as it stands there."""
+    """A line of the list, as it is written there."""
 
     line: int
     pattern: str
@@ -32,7 +32,7 @@ class Fail(NamedTuple):
 
 
 class Setting(NamedTuple):
-    """A number that a remark or an option says, and where."""
+    """A number that a remark or an option gives, and the place where it does."""
 
     number: int
     place: str
@@ -48,7 +48,7 @@ def fields_of(place: str, text: str) -> List[str]:
 
 
 def texts_of(name: str) -> List[str]:
-    """The lines of a CSV file, which a tester may have written on another system: with a byte order mark, and with CR before LF."""
+    """The lines of a CSV file. A tester may have written it on another system, with a byte order mark and with CR before LF."""
     with open(name, "rb") as file:
         content = file.read()
     content = content[3:] if content.startswith(b"\xef\xbb\xbf") else content
@@ -60,7 +60,7 @@ def texts_of(name: str) -> List[str]:
 
 
 class FailList:
-    """The list in a file: by `column` its fails name pins or positions, and `settings` are what its remarks say."""
+    """The list in a file. `column` is whether its fails name pins or positions, and `settings` has the numbers that its remarks give."""
 
     def __init__(self, name: str):
         self.name = name
@@ -80,7 +80,7 @@ class FailList:
             raise ValueError(f"{named(name)} has no heading: its first line that is no remark names the columns, as `pattern,pin,observed`")
 
     def take_remark(self, line: int, text: str) -> None:
-        """Takes in what a remark says, if it is of an option."""
+        """Adds the setting of a remark, if it gives one."""
         said = SETTING.fullmatch(text.strip())
         if not said:
             return
@@ -93,7 +93,7 @@ class FailList:
             raise ValueError(f"{place}: {error}") from None
 
     def take(self, line: int, fields: List[str]) -> None:
-        """Takes in the heading or a fail."""
+        """Adds the heading or a fail."""
         if not self.columns:
             self.columns = self.heading(line, fields)
             return
@@ -109,7 +109,7 @@ class FailList:
         return "pin" if "pin" in self.columns else "position"
 
     def heading(self, line: int, fields: List[str]) -> List[str]:
-        """The columns by their heading."""
+        """The columns that the heading names."""
         columns, place = [it.lower() for it in fields], at_line(self.name, line)
         strange = next((it for it in columns if it not in COLUMNS), None)
         if strange is not None:
@@ -123,7 +123,7 @@ class FailList:
         return columns
 
     def mend(self, strange: str, columns: List[str]) -> str:
-        """What is said of a heading with a column that isn't known."""
+        """What is said about a heading with an unknown column."""
         to = f"{shlex.quote(os.fspath(self.name))} > NEW"
         parted = re.search(r"[;\t|]", strange)
         if parted:

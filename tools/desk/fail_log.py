@@ -1,7 +1,7 @@
-"""The log that a list of failing bits and the expected log come to.
+"""Makes a log from a list of failing bits and the expected log.
 
-A bit that isn't listed passed, up to the last pattern that was applied. Where the tester's memory of fails was full nothing is known: there
-the log has x."""
+A bit that isn't listed passed, up to the last pattern that was applied. Once the tester's memory of fails was full, nothing is known, and the
+log has x."""
 
 from __future__ import annotations
 
@@ -21,7 +21,7 @@ OTHER = {"0": "1", "1": "0"}
 
 
 class Pins:
-    """Which position a pin is: by its name, by what tools/pins calls it, or by the tester's name in a map."""
+    """Finds the position of a pin by its name, by what tools/pins calls it, or by the tester's name in a map."""
 
     def __init__(self, netlist: Netlist):
         self.netlist = netlist
@@ -32,7 +32,7 @@ class Pins:
                 self.places.setdefault(it, []).append(at)
 
     def map_by(self, name: str) -> None:
-        """Takes in a map: CSV of the tester's names and of ours."""
+        """Adds a map: CSV of the tester's names and the netlist's."""
         lines: Dict[str, int] = {}
         for line, text in enumerate(texts_of(name), 1):
             place = at_line(name, line)
@@ -48,7 +48,7 @@ class Pins:
             self.mapped[theirs] = self.own(ours, place)
 
     def own(self, pin: str, place: str) -> int:
-        """The position of a pin by our names."""
+        """The position of a pin by the netlist's names."""
         found = self.places.get(pin, [])
         if len(found) == 1:
             return found[0]
@@ -58,14 +58,14 @@ class Pins:
         raise ValueError(f"{place}: no output or scan cell is called {named(pin)}{self.hint(pin)}")
 
     def hint(self, pin: str) -> str:
-        """What a pin may be that is no position."""
+        """What a pin may be if it is no position."""
         if pin in self.netlist.kinds:
             return ": it is an input, of which nothing is observed"
         cell = next((name for (kind, name), line in zip(self.netlist.positions, self.netlist.shown) if kind == "cell" and line == pin), None)
         return f": it is the line that the scan cell {cell} reads" if cell else near(pin, [name for _, name in self.netlist.positions])
 
     def place_of(self, pin: str, place: str) -> int:
-        """The position of a pin by the tester's names, or else by ours."""
+        """The position of a pin by the tester's names, or else by the netlist's."""
         return self.mapped[pin] if pin in self.mapped else self.own(pin, place)
 
 
@@ -93,11 +93,11 @@ class FailLog:
         self.end = self.ended()
 
     def number(self, setting: str) -> Optional[int]:
-        """What is set, if it is."""
+        """The number of a setting, or None if it isn't given."""
         return self.settings[setting].number if setting in self.settings else None
 
     def span(self) -> str:
-        """Which patterns there are, as the tester counts them."""
+        """Which patterns the expected log has, in words, and from where the tester counts them."""
         numbers = list(self.expected)
         if not numbers:
             return "has no pattern"
@@ -131,7 +131,7 @@ class FailLog:
             raise ValueError(f"{place}: {error}") from None
 
     def take(self, fail: Fail) -> None:
-        """Takes in a fail."""
+        """Adds a fail."""
         place = at_line(self.listed.name, fail.line)
         pattern, position = self.pattern_of(fail.pattern, place), self.position_of(fail, place)
         row = self.seen.setdefault(pattern, {})
@@ -140,7 +140,7 @@ class FailLog:
         row[position] = Seen(self.bit(fail, self.expected[pattern][position], place), fail.line)
 
     def bit_name(self, fail: Fail) -> str:
-        """Which bit a fail is of."""
+        """The failing bit in words."""
         return f"{self.listed.column} {named(fail.pin)} at pattern {fail.pattern}"
 
     def bit(self, fail: Fail, expected: str, place: str) -> str:
@@ -154,7 +154,7 @@ class FailLog:
         return found
 
     def full(self) -> bool:
-        """Whether the memory was full that all fails share."""
+        """Whether the memory that all fails share was full."""
         limit = self.number("limit")
         return limit is not None and self.count >= limit
 
@@ -172,7 +172,7 @@ class FailLog:
         return max(self.seen)
 
     def filled(self) -> Dict[int, int]:
-        """The positions of which the tester kept no further fail, and the last pattern at which it did."""
+        """The positions for which the tester kept no further fail, each with the last pattern at which it kept one."""
         limit, counts, last = self.number("pin-limit"), {}, {}
         for pattern in sorted(self.seen if limit else ()):
             for position in self.seen[pattern]:
@@ -196,7 +196,7 @@ class FailLog:
             yield f"{number} {''.join(row) or '-'}\n"
 
     def told(self) -> str:
-        """What is said of the log beside it."""
+        """What standard error says about the log."""
         fails = f"{count(self.count, 'failing bit')} at {count(len(self.seen), 'pattern')}"
         end = f"the log ends with pattern {self.end + self.first}"
         if self.full():

@@ -1,4 +1,4 @@
-"""Why a file can't be read or written."""
+"""Says why a file can't be read or written."""
 
 from __future__ import annotations
 
@@ -72,7 +72,7 @@ def unwritten(name: str) -> str | None:
 
 
 def full(name: str, folder: str) -> str | None:
-    """Whether no byte more fits on the disk of a file, tried with a file that has no name."""
+    """Why a file can't grow, if its disk has no room. This is tried with a file that has no name."""
     try:
         with open(os.open(folder, os.O_TMPFILE | os.O_WRONLY), "wb", buffering=0) as file:
             wanted, piece = 1 << 20, bytes(1 << 20)

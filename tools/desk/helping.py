@@ -28,11 +28,11 @@ SAID = (  # what argparse says, in plain words
 STOPS = (signal.SIGHUP, signal.SIGINT, signal.SIGTERM)
 
 
-Words = argparse.Namespace  # the words of a run, as they were understood
+Words = argparse.Namespace  # the parsed words of a run
 
 
 class Misused(Exception):
-    """Which word of a helper isn't understood."""
+    """Says which word of a helper isn't understood."""
 
 
 class Stopped(BaseException):
@@ -44,14 +44,14 @@ class Stopped(BaseException):
 
 
 class Made(NamedTuple):
-    """What is written under a name: what it is in words, and its bytes."""
+    """What is written under a name: its kind in words, and its bytes."""
 
     kind: str
     content: bytes
 
 
 class Parser(argparse.ArgumentParser):
-    """The words of a helper. Its help goes to standard output."""
+    """Parses the words of a helper. The help goes to standard output."""
 
     def __init__(self, name: str, description: str):
         form = argparse.RawDescriptionHelpFormatter
@@ -66,7 +66,7 @@ class Parser(argparse.ArgumentParser):
         raise Misused(message + (f": write the name of a file so: ./{word}" if name else ""))
 
     def parse(self, words: List[str]) -> Words:
-        """Takes in words, of which those behind -- are names. One of these that begins with - gets ./ before it."""
+        """Parses words. Those after -- are names; one of these that begins with - gets ./ before it."""
         at = words.index("--") if "--" in words else len(words)
         behind = [f"./{it}" if it.startswith("-") else it for it in words[at + 1 :]]
         return self.parse_intermixed_args([*words[:at], *behind])
@@ -77,7 +77,7 @@ class Parser(argparse.ArgumentParser):
 
 
 def number_of(what: str, text: str, least: int, most: int) -> int:
-    """The number that a text is. A ValueError says that it is none in this range."""
+    """The number that a text is. Raises a ValueError if it is none in this range."""
     wrong = wrong_number(what, text, least, most)
     if wrong:
         raise ValueError(wrong)
@@ -85,13 +85,13 @@ def number_of(what: str, text: str, least: int, most: int) -> int:
 
 
 def stop(number: int, _frame: object) -> NoReturn:
-    """What a signal does."""
+    """Handles a signal."""
     raise Stopped(number)
 
 
 def handle() -> None:
-    """Has signals end the helper by an exception, so that nothing of it is left behind. One that is ignored stays ignored. What is told to a
-    closed standard error goes nowhere."""
+    """Makes signals end the helper by an exception, so that it leaves nothing behind. An ignored signal stays ignored. What is written to a
+    closed standard error is dropped."""
     if sys.stderr is None:
         sys.stderr = open(os.devnull, "w", encoding="utf-8")
     for number in STOPS:
@@ -100,13 +100,13 @@ def handle() -> None:
 
 
 def sentence_of(error: OSError) -> str:
-    """What an open or a read that failed comes to."""
+    """Says which open or read failed, and why."""
     what = f"{named(error.filename)} can't be read" if error.filename else "a file can't be read or written"
     return f"{what}: {why(error)}"
 
 
 def run(name: str, work: Callable[[], None]) -> NoReturn:
-    """Does the work of a helper, and ends. If it can't be done, standard error has a sentence that says why."""
+    """Does the work of a helper, and ends. If the work can't be done, a sentence on standard error says why."""
     status = 1
     try:
         handle()
@@ -134,7 +134,7 @@ def run(name: str, work: Callable[[], None]) -> NoReturn:
 
 
 def write(output: Output, content: bytes) -> None:
-    """Writes a file under the name that it has until it is whole."""
+    """Writes a file under the name that it has until it is complete."""
     try:
         with open(output.written, "wb") as file:
             file.write(content)
@@ -143,8 +143,8 @@ def write(output: Output, content: bytes) -> None:
 
 
 def write_files(name: str, made: Dict[str, Made], read: List[str], force: bool) -> None:
-    """Writes files beside their names, and gives them these when all are complete. A file that is read, or one of another kind, isn't
-    written over without force."""
+    """Writes files beside their names, and renames them when all are complete. Without `force` it refuses to write over a file that is read or
+    one of another kind."""
     if not force:
         refuse_same(read, list(made), FORCE)
         refuse_another({it: one.kind for it, one in made.items()}, kind_of, FORCE)

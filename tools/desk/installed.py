@@ -1,9 +1,10 @@
-"""What an installation has, and how it is put under a folder and taken away. The list of its files stands in lib/diatest/manifest: a line has a
-checksum and a path, or `folder` and the path of a folder that was made for it."""
+"""Puts an installation under a folder, and removes one. Its files are listed in lib/diatest/manifest: a line has a checksum and a path, or
+`folder` and the path of a folder that was made for the installation."""
 
 import hashlib
 import os
 import shutil
+from typing import Callable, Iterable
 
 import completion
 import manual
@@ -16,11 +17,11 @@ PAGES = ("README.md", "docs/DESK.md", "docs/FORMATS.md", "docs/TUTORIAL.md", "do
 
 
 class Refused(Exception):
-    """Why nothing is installed or taken away."""
+    """Says why nothing is installed or removed."""
 
 
-def checksum(path):
-    """The checksum of a file, or of where a link leads; None where there is nothing."""
+def checksum(path: str) -> "str | None":
+    """The checksum of a file, or of the target of a link; None if there is neither."""
     if os.path.islink(path):
         return hashlib.sha256(b"link " + os.fsencode(os.readlink(path))).hexdigest()
     try:
@@ -30,8 +31,8 @@ def checksum(path):
         return None
 
 
-def copied(program):
-    """The files that are copied: by their paths under the folder where they come from."""
+def copied(program: str) -> dict[str, str]:
+    """The files to copy: by path under the folder the file that each is copied from."""
     found = {f"{LIBRARY}/program": program, f"{LIBRARY}/diatest": f"{HERE}/diatest"}
     for it in (*HELPERS, "from-verilog.ys", "uninstall"):
         found[f"{LIBRARY}/tools/{it}"] = f"{HERE}/tools/{it}"
@@ -41,8 +42,8 @@ def copied(program):
     return found | {f"{LIBRARY}/{it}": f"{HERE}/{it}" for it in PAGES}
 
 
-def written(version):
-    """The files that are made: by their paths what stands in them."""
+def written(version: str) -> dict[str, str]:
+    """The files to make: by path their texts."""
     return {
         f"{LIBRARY}/version": version,
         "share/man/man1/diatest.1": manual.page(version.strip().replace("diatest, ", "", 1)),
@@ -51,13 +52,13 @@ def written(version):
     }
 
 
-def linked():
-    """The links on the PATH: by their paths where they lead."""
+def linked() -> dict[str, str]:
+    """The links for the PATH: by path their targets."""
     links = {f"bin/diatest-{it}": f"../{LIBRARY}/tools/{it}" for it in HELPERS}
     return {"bin/diatest": f"../{LIBRARY}/diatest"} | links
 
 
-def listed(prefix):
+def listed(prefix: str) -> tuple[dict[str, str], list[str]]:
     """The checksums of an installation's files by their paths, and its folders."""
     files, folders = {}, []
     try:
@@ -73,16 +74,16 @@ def listed(prefix):
     return files, folders
 
 
-def note(prefix, files, folders):
-    """Writes the list of an installation's files, so that one that is broken off can be taken away."""
+def note(prefix: str, files: dict[str, str], folders: list[str]) -> None:
+    """Writes the list of an installation's files, so that an interrupted installation can be removed."""
     with open(f"{prefix}/{MANIFEST}.new", "w", encoding="utf-8") as file:
         file.writelines(f"folder {it}\n" for it in folders)
         file.writelines(f"{sum_of} {path}\n" for path, sum_of in files.items())
     os.replace(f"{prefix}/{MANIFEST}.new", f"{prefix}/{MANIFEST}")
 
 
-def make_folders(prefix, paths, folders):
-    """Makes the folders of these files, and adds those to a list that weren't there."""
+def make_folders(prefix: str, paths: Iterable[str], folders: list[str]) -> None:
+    """Makes the folders of these files, and adds to `folders` those that weren't there."""
     for path in paths:
         parts = path.split("/")[:-1]
         for count in range(1, len(parts) + 1):
@@ -93,8 +94,8 @@ def make_folders(prefix, paths, folders):
                 folders.append(folder)
 
 
-def put(path, fill, noted):
-    """Has a file made beside a path, has its checksum noted, and gives it the path."""
+def put(path: str, fill: Callable[[str], None], noted: Callable[[str], None]) -> None:
+    """Makes a file beside a path by `fill`, passes its checksum to `noted`, and then renames the file to the path."""
     new = f"{path}.new-{os.getpid()}"
     try:
         fill(new)
@@ -105,31 +106,31 @@ def put(path, fill, noted):
             os.unlink(new)
 
 
-def write(path, text):
+def write(path: str, text: str) -> None:
     with open(path, "w", encoding="utf-8") as file:
         file.write(text)
     os.chmod(path, 0o644)
 
 
-def copy(source, path):
+def copy(source: str, path: str) -> None:
     shutil.copyfile(source, path)
     os.chmod(path, 0o755 if os.access(source, os.X_OK) else 0o644)
 
 
-def fills(program, version):
-    """What makes each file of an installation, by its path."""
+def fills(program: str, version: str) -> dict[str, Callable[[str], None]]:
+    """By path the call that makes each file of an installation."""
     found = {it: lambda to, source=source: copy(source, to) for it, source in copied(program).items()}
     found |= {it: lambda to, text=text: write(to, text) for it, text in written(version).items()}
     return found | {it: lambda to, target=target: os.symlink(target, to) for it, target in linked().items()}
 
 
-def foreign(prefix, paths, files):
-    """Those of some paths where something stands that this installation didn't put there, or that was changed since."""
+def foreign(prefix: str, paths: Iterable[str], files: dict[str, str]) -> list[str]:
+    """Those of the paths that exist although this installation didn't make them, or that were changed since."""
     return [it for it in paths if os.path.lexists(f"{prefix}/{it}") and checksum(f"{prefix}/{it}") != files.get(it)]
 
 
-def install(prefix, program, version, force):
-    """Puts an installation under a folder; one that is there is replaced. Returns how many files it has."""
+def install(prefix: str, program: str, version: str, force: bool) -> int:
+    """Puts an installation under a folder, in place of an earlier one. Returns how many files it has."""
     os.makedirs(prefix, exist_ok=True)
     files, folders = listed(prefix)
     made = fills(program, version)
@@ -150,8 +151,8 @@ def install(prefix, program, version, force):
     return len(made)
 
 
-def uninstall(prefix):
-    """Takes an installation away. Returns how many files that were, and which are left, since they were changed."""
+def uninstall(prefix: str) -> tuple[int, list[str]]:
+    """Removes an installation. Returns how many files were removed, and which are left since they were changed."""
     files, folders = listed(prefix)
     if not files:
         raise Refused(f"there is no installation under {named(prefix)}: no file {named(f'{prefix}/{MANIFEST}')} lists one")
@@ -164,5 +165,5 @@ def uninstall(prefix):
         try:
             os.rmdir(f"{prefix}/{folder}")
         except OSError:
-            pass  # something else stands there
+            pass  # it has something else
     return len(gone), left

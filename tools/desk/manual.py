@@ -25,7 +25,7 @@ fails or is stopped leaves an older file as it was. If a file is refused, standa
 
 
 def roff(text: str) -> str:
-    """A text as it stands in a page."""
+    """A text, escaped for the page."""
     text = text.replace("\\", "\\e").replace("-", "\\-").replace("`", "").replace("'", "\\(aq")
     return "\\&" + text if text.startswith(".") else text
 

@@ -1,7 +1,7 @@
-"""Lines of sed and awk that mend a file which is written in another way. The tutorial's table has those of logs.
+"""Commands of sed and awk that mend a file that is written in another way. The tutorial's table has those for logs.
 
-A line is looked at by a form in which WIDTH stands for how many bits a right one has. A mend that takes lines off is offered only if it leaves
-some, and takes off none that may hold a pattern's bits."""
+A line is compared with a form, in which WIDTH is the number of bits of a right line. A mend that deletes lines is offered only if it leaves some
+and deletes none that may hold a pattern's bits."""
 
 import re
 import shlex
@@ -9,14 +9,14 @@ from typing import NamedTuple
 
 
 class Mend(NamedTuple):
-    has: str  # what a line has that isn't right
-    form: bytes  # such a line
-    command: str  # LINE in it stands for the number of the line, and WIDTH for how many bits a right one has
-    keeps: bytes = b""  # the front of a line that stays, if others are taken off
+    has: str  # what is wrong with a line or a file
+    form: bytes  # matches such a line
+    command: str  # in it LINE is the number of the line, and WIDTH the number of bits of a right line
+    keeps: bytes = b""  # matches the beginning of a line that stays, if others are deleted
 
 
 BIT = rb"[01xXzZHLhl?.-]"
-ENCODED = (  # by the bytes at the front of a file
+ENCODED = (  # by the bytes at the beginning of a file
     Mend("is compressed by gzip", rb"\x1f\x8b", "zcat"),
     Mend("is compressed by xz", rb"\xfd7zXZ\x00", "xzcat"),
     Mend("is compressed by bzip2", rb"BZh[1-9]1AY", "bzcat"),
@@ -28,10 +28,10 @@ FEEDS = Mend("ends with CR and LF", rb"[^\n]*\r\n?", r"sed 's/\r$//'")
 OPEN = Mend("has no LF at its end", rb"[^\n]+", r"sed '$a\'")
 EMPTY = Mend("is empty", rb"[ \t]*\n?", r"sed '/^[ \t]*$/d'", rb"[ \t]*\S")
 QUOTED = Mend("has quotation marks", rb'.*".*', "sed 's/\"//g'")
-LETTER = rb"[A-GI-KM-WYa-gi-km-wy]"  # none that stands for a bit
-OF_WORDS = rb"[GI-KM-WYgi-km-wy]"  # a letter that stands for no bit, and is no digit of a number in hexadecimal
+LETTER = rb"[A-GI-KM-WYa-gi-km-wy]"  # none that may be a bit
+OF_WORDS = rb"[GI-KM-WYgi-km-wy]"  # a letter that is neither a bit nor a hexadecimal digit
 COMMENT = rb"[ \t]*[#;*%!/]"
-REMARKED = rb"[#;*%!/]+[ \t]*[A-Za-z]"  # how a remark begins that has a word
+REMARKED = rb"[#;*%!/]+[ \t]*[A-Za-z]"  # how a remark with a word begins
 REMARK = Mend(
     "is a remark or a heading",
     rb"(?=.*OF_WORDS)([#;*%!/].*|[A-Za-z_]+([ \t,;:]+[A-Za-z_]+)*[:.]?\s*)|(?!(BIT[ _]*){WIDTH}\s*\Z)[^0-9A-Za-z\s][^0-9A-Za-z]*",
@@ -39,7 +39,7 @@ REMARK = Mend(
 )
 WORD_BEHIND = r"sed -E 's/[ \t,;:]+[A-Za-z]*[A-GI-KM-WYa-gi-km-wy][A-Za-z]*[ \t]*$//'"
 REMARK_BEHIND = r"sed -E 's/([01xXzZHLhl?.-])[ \t]*(#|\/\/).*$/\1/'"
-FROM_HEX = (  # each digit becomes a letter, which gets its two high bits in front, and then its two low ones in its place
+FROM_HEX = (  # each digit becomes a letter; its two high bits are put before the letter, and then its two low bits replace the letter
     "y/0123456789abcdefABCDEF/ghijklmnopqrstuvqrstuv/; s/[g-j]/00&/g; s/[k-n]/01&/g; s/[o-r]/10&/g; s/[s-v]/11&/g; "
     r"y/klmnopqrstuv/ghijghijghij/; s/g/00/g; s/h/01/g; s/i/10/g; s/j/11/g; s/^0*([01]{WIDTH})$/\1/"
 )
@@ -47,7 +47,7 @@ HEX_BEHIND = f"sed -E '/^[0-9]+ 0[xX][0-9A-Fa-f]+$/{{h; s/ .*//; x; s/.* 0[xX]//
 HEX_ALONE = f"sed -E '/^0[xX][0-9A-Fa-f]+$/{{s/^..//; {FROM_HEX}}}'"
 IN_HEX = Mend("has its bits in hexadecimal, the first positions in the first digit", rb"[0-9]+ 0[xX]HEX\n?", HEX_BEHIND)
 
-NUMBERED = (  # by a line of a log, the first that fits
+NUMBERED = (  # by a line of a log; the first that fits is taken
     FEEDS,
     EMPTY,
     Mend("begins with blanks", rb"[ \t]+[^\s].*", r"sed -E 's/^[ \t]+//; s/[ \t]+$//'"),
@@ -74,7 +74,7 @@ NUMBERED = (  # by a line of a log, the first that fits
     Mend("has blanks or _ among its bits", rb"[0-9]+ [01x]+[ _][01x _]*\n?", r"sed -E ':a; s/^([0-9]+ [01x]+)[ _]+/\1/; ta'"),
     OPEN,
 )
-VECTORS = (  # by a line of a list of vectors
+VECTORS = (  # by a line of a list of vectors; likewise
     FEEDS,
     EMPTY,
     Mend("begins or ends with blanks", rb"[ \t]+\S.*|[01xX]+[ \t]+\n?", r"sed -E 's/^[ \t]+//; s/[ \t]+$//'"),
@@ -101,34 +101,34 @@ AGAIN = Mend("has patterns in another order, or some twice", rb"", "sort -n -s -
 FROM_ONE = Mend("counts patterns from 1", rb"", "awk '{ print $1 - 1, $2 }'")
 
 
-def sentence(mend, subject, name, line=0, width=0):
-    """What a line or a file has, and the line that mends it."""
+def sentence(mend: Mend, subject: str, name: str, line: int = 0, width: int = 0) -> str:
+    """What is wrong with a line or a file, and the command that mends it."""
     command = mend.command.replace("LINE", str(line)).replace("WIDTH", str(width))
     return f" {subject} {mend.has}. This mends it:\n  {command} {shlex.quote(name)} > NEW"
 
 
-def of_file(head, name):
-    """How a file is encoded that begins so, and what mends it."""
+def of_file(head: bytes, name: str) -> str:
+    """How a file that begins with `head` is encoded, and what mends it; empty if it needs no mend."""
     return next((sentence(it, "The file", name) for it in ENCODED if re.match(it.form, head)), "")
 
 
-def hexadecimal(width):
-    """The form of so many bits in hexadecimal, in as few digits as they need."""
+def hexadecimal(width: int) -> bytes:
+    """The form of `width` bits in hexadecimal, in as few digits as they need."""
     first = {0: b"", 1: b"[01]", 2: b"[0-3]", 3: b"[0-7]"}[width % 4]
     return first + b"[0-9A-Fa-f]{%d}" % (width // 4)
 
 
-def form(text, width):
-    """The expression of a form, for lines of so many bits."""
+def form(text: bytes, width: int) -> re.Pattern:
+    """The regular expression of a form, for lines of `width` bits."""
     parts = {b"BIT": BIT, b"LETTER": LETTER, b"OF_WORDS": OF_WORDS, b"REMARKED": REMARKED, b"WIDTH": b"%d" % width, b"HEX": hexadecimal(width)}
     for name, part in parts.items():
         text = text.replace(name, part)
     return re.compile(text, re.DOTALL)
 
 
-def holds_bits(line, width, numbered):
-    """Whether a line that is taken off may hold a pattern's bits: it has so many, and in a log, where a pattern has a number, also a number before
-    them, or no word that says what they are. Behind a comment mark the number has to stand next to them."""
+def holds_bits(line: bytes, width: int, numbered: bool) -> bool:
+    """Whether a line to be deleted may hold a pattern's bits: it has `width` of them. In a log, which is `numbered`, it also has a number before
+    them, or no word that says what they are. After a comment mark the number has to be next to them."""
     if not re.search(rb"[0-9A-Za-z]", line):
         return bool(form(rb"\s*(BIT[ _]*){WIDTH}\s*", width).fullmatch(line))
     number = rb"[0-9][^0-9A-Za-z]+\Z" if re.match(COMMENT, line) else rb"[0-9]"
@@ -137,8 +137,8 @@ def holds_bits(line, width, numbered):
     return any(bare or re.search(number, line[: it.start()]) for it in found)
 
 
-def keeps_bits(mend, name, width, numbered):
-    """Whether a mend that takes lines off leaves some, and takes off none that may hold a pattern's bits."""
+def keeps_bits(mend: Mend, name: str, width: int, numbered: bool) -> bool:
+    """Whether a mend that deletes lines leaves some, and deletes none that may hold a pattern's bits."""
     stays, left = re.compile(mend.keeps), False
     with open(name, "rb") as file:
         for line in file:
@@ -149,8 +149,8 @@ def keeps_bits(mend, name, width, numbered):
     return left
 
 
-def of_line(line, mends, name, width=0, number=0):
-    """What a line has, and what mends it. The line has its LF, if there is one; right ones have so many bits."""
+def of_line(line: bytes, mends: tuple[Mend, ...], name: str, width: int = 0, number: int = 0) -> str:
+    """What is wrong with a line, and what mends it; empty if no mend fits. The line has its LF, if there is one; a right line has `width` bits."""
     for it in mends:
         if form(it.form, width).fullmatch(line) and (not it.keeps or keeps_bits(it, name, width, mends is NUMBERED)):
             return sentence(it, "The line", name, number, width)

@@ -1,12 +1,13 @@
-"""The files that a run writes. Each is written beside its name, and gets the name when the run has succeeded.
+"""The files that a run writes. Each is written beside its name, and renamed when the run has succeeded.
 
-So a run that fails or is stopped leaves the older file as it was, and two runs at once leave the whole file of one of them. What isn't a plain
-file (a device, a pipe, an open descriptor such as /dev/stdout) is written straight through."""
+So a run that fails or is stopped leaves the older file as it was, and two runs at once leave the complete file of one of them. What isn't a
+plain file (a device, a pipe, an open descriptor such as /dev/stdout) is written directly."""
 
 import errno
 import fcntl
 import os
 import stat
+from typing import Callable
 
 from failures import why
 from progress import stamp
@@ -18,11 +19,11 @@ FORCE = "--force"
 
 
 class Refused(Exception):
-    """Why a run isn't begun."""
+    """Says why a run isn't started."""
 
 
-def target(name):
-    """The file that a name stands for, behind symbolic links; None where that is an open descriptor, or no file that can be created."""
+def target(name: str) -> "str | None":
+    """The file that a name leads to through symbolic links; None if that is an open descriptor, or no file that can be created."""
     for _ in range(LINKS):
         folder, last = os.path.split(name)
         if last in ("", ".", "..") or not os.path.isdir(folder or "."):
@@ -35,8 +36,8 @@ def target(name):
     return None
 
 
-def is_plain(name):
-    """Whether a name is that of a plain file; None where there is no file."""
+def is_plain(name: str) -> "bool | None":
+    """Whether a name is that of a plain file; None if there is no file."""
     try:
         return stat.S_ISREG(os.stat(name).st_mode)
     except FileNotFoundError:
@@ -45,7 +46,7 @@ def is_plain(name):
         return False
 
 
-def same_file(one, other):
+def same_file(one: str, other: str) -> bool:
     """Whether two names are those of one plain file, by its device and inode."""
     try:
         return is_plain(one) and os.path.samefile(one, other)
@@ -53,8 +54,8 @@ def same_file(one, other):
         return False
 
 
-def refuse_same(read, made, force):
-    """Refuses a run that would write over a file that it reads. Either is a list of names."""
+def refuse_same(read: list[str], made: list[str], force: str) -> None:
+    """Refuses a run that would write over a file that it reads. `read` and `made` are names, and `force` is the option that allows it."""
     for output in made:
         for it in read:
             if same_file(it, output):
@@ -62,8 +63,9 @@ def refuse_same(read, made, force):
                 raise Refused(f"{both} is read by this run, which would write over it; give the new file another name, or add {force}")
 
 
-def refuse_another(made, kind_of, force):
-    """Refuses a run that would write over a file of another kind, or over a log that may be a chip's. `made` has what is written under each name."""
+def refuse_another(made: dict[str, str], kind_of: Callable[[str], "str | None"], force: str) -> None:
+    """Refuses a run that would write over a file of another kind, or over a log that may be a chip's. `made` has the kind that is written under
+    each name."""
     for name, kind in made.items():
         older = kind_of(name) if target(name) and is_plain(name) else None
         if older and (older != kind or kind == "a log"):
@@ -71,9 +73,9 @@ def refuse_another(made, kind_of, force):
 
 
 class Output:
-    """A file that a run writes: `written` is the name that the program gets."""
+    """A file that a run writes. `written` is the name that the program is given."""
 
-    def __init__(self, name):
+    def __init__(self, name: str) -> None:
         self.name, self.target, self.older = name, target(name), None
         self.written, self.error = name, None
         self.plain = self.target is not None and is_plain(self.target) is not False
@@ -82,12 +84,12 @@ class Output:
             self.begin()
 
     @property
-    def beside(self):
+    def beside(self) -> bool:
         """Whether the file is written beside its name."""
         return self.written != self.name
 
-    def begin(self):
-        """Creates the file beside the name, as long as the program could write the file itself."""
+    def begin(self) -> None:
+        """Creates the file beside the name, if the program could write the file itself."""
         folder, last = os.path.split(self.target)
         if not os.access(self.target if self.older else folder or ".", os.W_OK, effective_ids=os.access in os.supports_effective_ids):
             return
@@ -97,8 +99,8 @@ class Output:
         except OSError as error:
             self.error = error
 
-    def create(self, front):
-        """Creates a file whose name begins so, with the owner and the permissions of the older file."""
+    def create(self, front: str) -> str:
+        """Creates a file whose name begins with `front`, with the owner and the permissions of the older file. Returns its name."""
         count = os.getpid()
         while True:
             try:
@@ -116,34 +118,34 @@ class Output:
             os.close(made)
         return f"{front}.new-{count}"
 
-    def like_older(self, made):
+    def like_older(self, made: int) -> None:
         """Gives an open file the owner and the permissions of the older one."""
         older = os.stat(self.target)
         for owner in (-1, older.st_uid):
             try:
                 os.fchown(made, owner, older.st_gid)
             except OSError:
-                break  # only root may give a file away, and only to one's own groups a file may go
+                break  # only root may change a file's owner; others may only set its group to one of their own
         os.fchmod(made, stat.S_IMODE(older.st_mode))
 
-    def unsafe(self):
-        """Why a run that fails would destroy an older file, if it would."""
+    def unsafe(self) -> "str | None":
+        """Why a run that fails would destroy the older file, if it would."""
         if not self.older or not self.error:
             return None
         return f"no file can be written beside {named(self.name)} ({why(self.error)}), so a run that fails would destroy it"
 
-    def replace(self):
-        """Gives the new file its name. Returns what is to be told of that."""
+    def replace(self) -> "str | None":
+        """Renames the new file to its name. Returns what is to be said about that."""
         now = stamp(self.target)
         if now:
             with open(self.written, "rb") as file:
-                os.fsync(file.fileno())  # so that no crash leaves an empty file in the place of the older one
+                os.fsync(file.fileno())  # so that no crash leaves an empty file in place of the older one
         os.replace(self.written, self.target)
         if now and now != self.older:
             return f"{named(self.name)} was written by another program during this run; it is now the file of this run"
         return f"{named(self.name)} is a new file, which replaces the older one" if now else None
 
-    def ends(self):
+    def ends(self) -> bool:
         """Whether the last line of what was written is `end`."""
         file = plain_file(self.written)
         if not file:
@@ -152,8 +154,8 @@ class Output:
             file.seek(max(0, file.seek(0, os.SEEK_END) - 5))
             return file.read() == b"\nend\n"
 
-    def drop(self):
-        """Takes away the file beside the name."""
+    def drop(self) -> None:
+        """Removes the file beside the name."""
         if self.beside:
             try:
                 os.unlink(self.written)
@@ -165,7 +167,7 @@ class Output:
 class Outputs:
     """The files of a run, by what the usage calls them. Two names of one file are one output."""
 
-    def __init__(self, names):
+    def __init__(self, names: dict[str, str]) -> None:
         by_target = {}
         self.by_label = {}
         for label, name in names.items():
@@ -173,12 +175,12 @@ class Outputs:
             self.by_label[label] = by_target[key] = by_target.get(key) or Output(name)
         self.all = list(by_target.values())
 
-    def unsafe(self):
+    def unsafe(self) -> "str | None":
         """Why an older file isn't safe, if one isn't."""
         return next(filter(None, (it.unsafe() for it in self.all)), None)
 
-    def replace(self):
-        """Gives each new file its name, while no other run does so in this folder. Returns what is to be told, and whether all have it."""
+    def replace(self) -> tuple[list[str], bool]:
+        """Renames each new file to its name, while no other run does so in this folder. Returns what is to be said, and whether all are renamed."""
         beside, told, whole = [it for it in self.all if it.beside], [], True
         lock = self.locked(beside)
         for it in beside:
@@ -191,8 +193,8 @@ class Outputs:
             os.close(lock)
         return list(filter(None, told)), whole
 
-    def locked(self, beside):
-        """An open folder that is locked, where it can be, if there are several files."""
+    def locked(self, beside: list[Output]) -> "int | None":
+        """The open folder, locked if that is possible; None if there is only one file or the folder can't be opened."""
         if len(beside) < 2:
             return None
         try:
@@ -205,14 +207,14 @@ class Outputs:
             pass
         return folder
 
-    def drop(self):
-        """Takes away what was written beside the names."""
+    def drop(self) -> None:
+        """Removes what was written beside the names."""
         for it in self.all:
             it.drop()
 
 
-def put(name, text):
-    """Writes a text beside a name, and renames it when it is whole; what isn't a plain file is written straight through."""
+def put(name: str, text: str) -> None:
+    """Writes a text beside a name, and renames it when it is complete. What isn't a plain file is written directly."""
     output = Output(name)
     try:
         with open(output.written, "w", encoding="utf-8", errors="backslashreplace", newline="") as file:

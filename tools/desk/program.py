@@ -1,4 +1,4 @@
-"""Which program the helpers run."""
+"""Finds the program that the helpers run."""
 
 from __future__ import annotations
 
@@ -16,12 +16,12 @@ def program_of() -> str:
 
 
 def deaf() -> None:
-    """Has a process that is started ignore the interrupt of a terminal, since it is stopped by another signal."""
+    """Makes a child process ignore the interrupt of a terminal, since another signal stops it."""
     signal.signal(signal.SIGINT, signal.SIG_IGN)
 
 
 def built() -> str | None:
-    """The same name, of a program that is built first if it must be; None if the build fails. The build is stopped if this is interrupted."""
+    """The name of the program, which is built first if it must be; None if the build fails. An interrupt stops the build too."""
     name = program_of()
     if os.environ.get("DIATEST") or name == f"{TOP}/program":
         return name

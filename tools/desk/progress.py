@@ -1,4 +1,4 @@
-"""How far a run of `gen` or `topup` is, by the lines of the result that it has written."""
+"""Shows how far a run of `gen` or `topup` is, by the lines of the result that it has written."""
 
 from __future__ import annotations
 
@@ -7,13 +7,13 @@ import time
 
 from telling import PIECE, say
 
-HEAD = 64  # bytes of a line that tell what is counted
+HEAD = 64  # bytes of a line that are needed to count it
 FIRST = 3  # seconds before anything is shown
 AT_ONCE = 64  # pieces that are read in a second
 
 
 def stamp(name: str) -> tuple[int, int, int] | None:
-    """What shows whether a file is another than before."""
+    """Values that differ if a file is another than before; None if there is no file."""
     try:
         it = os.stat(name)
         return it.st_ino, it.st_mtime_ns, it.st_size
@@ -22,7 +22,7 @@ def stamp(name: str) -> tuple[int, int, int] | None:
 
 
 class Progress:
-    """Reads the result as it grows, and shows the counts on a line of the terminal that it writes over."""
+    """Reads the result as it grows, and shows the counts on one line of the terminal."""
 
     def __init__(self, name: str) -> None:
         self.name, self.before, self.began = name, stamp(name), time.monotonic()
@@ -30,7 +30,7 @@ class Progress:
         self.last, self.patterns, self.member, self.open = None, 0, None, set()
 
     def count(self, line: bytes) -> None:
-        """Counts a line, of which the beginning is given."""
+        """Counts a line, given its beginning."""
         fields = line.split(b" ", 5)
         if fields[0] == b"diatest" and len(fields) > 4:
             self.last = int(fields[4]) - 1
@@ -41,7 +41,7 @@ class Progress:
             (self.open.add if fields[3] == b"O" else self.open.discard)(self.member)
 
     def read(self) -> None:
-        """Reads the lines that are new."""
+        """Reads the new lines."""
         with open(self.name, "rb") as file:
             file.seek(self.offset)
             for _ in range(AT_ONCE):
@@ -62,7 +62,7 @@ class Progress:
         return text if self.member is None else f"fault {self.member} of {self.last}, {len(self.open)} open, {text}"
 
     def show(self) -> None:
-        """Shows the counts, once the run has taken a while and the file is begun."""
+        """Shows the counts, once the run has taken a while and has begun to write the file."""
         seconds = int(time.monotonic() - self.began)
         if seconds < FIRST or stamp(self.name) in (None, self.before):
             return
@@ -76,7 +76,7 @@ class Progress:
         self.shown = len(text)
 
     def clear(self) -> None:
-        """Takes the line off the terminal."""
+        """Clears the line of the terminal."""
         if self.shown:
             say(f"\r{'':{self.shown}}\r")
         self.shown = 0

@@ -1,4 +1,4 @@
-"""Imported first, it has an interrupt end a script without a trace of Python."""
+"""Makes an interrupt end a script without a traceback, if it is imported first."""
 
 import signal
 

@@ -1,4 +1,4 @@
-"""Logs, lists of vectors and lists of fault numbers, read for the helpers. A wrong line is refused with its place and what mends it."""
+"""Reads logs, lists of vectors and lists of fault numbers for the helpers. A wrong line is refused with its place and what mends it."""
 
 from __future__ import annotations
 
@@ -22,12 +22,12 @@ def at_line(name: str, line: int) -> str:
 
 
 def refused(name: str, line: int, text: bytes, place: int, sentence: str) -> ValueError:
-    """That a line isn't right: its place, a caret under the byte, and a sentence."""
+    """The error for a wrong line: its place, a caret under the byte, and a sentence."""
     return ValueError(f"{at_line(name, line)}:\n{caret(io.BytesIO(text), place)}\n{sentence}")
 
 
 def mend_of(name: str, line: int, text: bytes, width: int, among: tuple) -> str:
-    """What a line or its file has, and what mends it; else how many bits a right line has. A pipe is read once, so nothing mends it."""
+    """What is wrong with a line or its file, and what mends it; else how many bits a right line has. A pipe is read once, so nothing mends it."""
     if os.path.isfile(name):
         with open(name, "rb") as file:
             encoded = mends.of_file(file.read(8), name)
@@ -44,7 +44,7 @@ def lines_of(name: str) -> List[bytes]:
 
 
 def bits_of(name: str, line: int, text: bytes, bits: bytes, width: int) -> str:
-    """The bits of a line, of which there have to be so many."""
+    """The bits of a line. Raises a ValueError if there aren't `width` of them."""
     found = "" if bits == b"-" else bits.decode("ascii")
     if len(found) != width:
         place = len(text) - 1 - len(bits) + min(width, len(found))
@@ -53,7 +53,7 @@ def bits_of(name: str, line: int, text: bytes, bits: bytes, width: int) -> str:
 
 
 def vectors_of(name: str, width: int) -> List[str]:
-    """The vectors of a list, each of so many bits."""
+    """The vectors of a list, each of `width` bits."""
     found = []
     for line, text in enumerate(lines_of(name), 1):
         right = LIST_LINE.fullmatch(text)
@@ -65,7 +65,7 @@ def vectors_of(name: str, width: int) -> List[str]:
 
 
 def log_of(name: str, width: int) -> Dict[int, str]:
-    """The bits of each pattern in a log, of which patterns may be missing and bits be x."""
+    """The bits of each pattern in a log. Patterns may be missing, and bits may be x."""
     found: Dict[int, str] = {}
     before = -1
     for line, text in enumerate(lines_of(name), 1):
@@ -84,7 +84,7 @@ def log_of(name: str, width: int) -> Dict[int, str]:
 
 
 def numbers_of(name: str, last: int) -> List[int]:
-    """The fault numbers in a file: the first word of each line, so that the lines of `faults` are taken, too. Remarks begin with #."""
+    """The fault numbers in a file: the first word of each line, so that the lines of `faults` are accepted too. Remarks begin with #."""
     found: Dict[int, int] = {}
     with open(name, encoding="utf-8-sig", errors="surrogateescape") as file:
         for line, text in enumerate(file, 1):

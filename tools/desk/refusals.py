@@ -1,5 +1,6 @@
-"""Where a file is refused, and what the rule asks that it breaks."""
+"""Shows where a file is refused, and what the rule that it breaks requires."""
 
+import io
 import re
 import struct
 from itertools import islice
@@ -9,7 +10,7 @@ import mends
 from telling import bytes_caret, caret, line_start, named, plain_file
 from usage import COMMANDS, FileOption, order_of
 
-LONGEST = 1 << 24  # bytes of a line that are looked at
+LONGEST = 1 << 24  # bytes of a line that are read
 
 STATEMENT = "A statement is INPUT(n), OUTPUT(n) or n = GATE(n, n); `#` begins a comment, which ends with its line."
 NETLIST = {
@@ -78,7 +79,7 @@ HEADS = (  # what a file is by its beginning
     (rb"(?s)(\s|//[^\n]*\n|/\*.*?\*/)*(module|`timescale)\s", "Verilog, from which tools/from-verilog makes a netlist"),
 )
 WANTED = {"netlist": "a netlist", "result": "a result", "dictionary": "a dictionary", "plan": "an adaptive plan", "log": "a log"}
-LISTED = (  # what an older file is whose beginning says nothing
+LISTED = (  # what an older file is if its beginning is none of these
     (rb"[01]{2,}\r?(\n|$)", "a list of vectors"),
     (rb"(?s)(.*\n)?[^0-9\n]*[0-9]+[^0-9A-Za-z\n]+[01xXzZHLhl?._ -]+[^0-9A-Za-z\n]*\n", "a log"),
 )
@@ -93,8 +94,8 @@ NAMES = {
 SAID = re.compile(r"(netlist|result|dictionary|log|vectors|plan): (?:Evidence )?(\w+) at (?:step (\d+), )?(?:byte (\d+))?(?:, )?(?:line (\d+))?")
 
 
-def first_wrong(text, form):
-    """The place in a line where it leaves its form, and the line's end if it doesn't."""
+def first_wrong(text: bytes, form: tuple[bytes, ...]) -> int:
+    """The place at which a line leaves its form, or the line's end if it doesn't."""
     at = 0
     for part in form:
         found = re.compile(part).match(text, at)
@@ -104,8 +105,8 @@ def first_wrong(text, form):
     return at
 
 
-def sizes(kind, command, files):
-    """How many patterns there are, if that is known, and how many bits a line has: by the files that the log goes with."""
+def sizes(kind: str, command: str, files: dict[str, str]) -> "tuple[int | None, int]":
+    """How many patterns there are (None for a list of vectors), and how many bits a line has, by the files that belong to the log."""
     if kind == "vectors":
         return None, len(bench.read(files["NETLIST"]).sources)
     if "RESULT" in files:
@@ -124,7 +125,7 @@ def sizes(kind, command, files):
         return patterns, positions
 
 
-def fault_numbers(netlist):
+def fault_numbers(netlist: bench.Netlist) -> int:
     """How many fault numbers a netlist has."""
     uses = {}
     for _, pins in netlist.gates.values():
@@ -135,13 +136,13 @@ def fault_numbers(netlist):
     return 1 + 2 * (len(netlist.sources) + len(netlist.gates) + sum(it for it in uses.values() if it > 1))
 
 
-def sizes_in_words(sizes):
+def sizes_in_words(sizes: list) -> str:
     """The three sizes of a circuit."""
     counts = [f"{size} {what}{'' if str(size) == '1' else 's'}" for size, what in zip(sizes, ("source", "position", "fault number"))]
     return f"{counts[0]}, {counts[1]} and {counts[2]}"
 
 
-def circuit_sizes(files, text):
+def circuit_sizes(files: dict[str, str], text: bytes) -> str:
     """Which sizes a result's head has, and which the netlist has, if they differ."""
     head = text.split()[2:5]
     netlist = bench.read(files["NETLIST"])
@@ -152,15 +153,15 @@ def circuit_sizes(files, text):
     return f"The result is of another circuit: it has {there}, and {named(files['NETLIST'])} has {sizes_in_words(here)}."
 
 
-def first_number(name):
+def first_number(name: str) -> "int | None":
     """The number in the first line of a log, if there is one."""
     with open(name, "rb") as file:
         found = re.match(NUMBER, file.readline(LONGEST))
     return int(found[0]) if found else None
 
 
-def log_order(command, files, name, line, text, patterns):
-    """What the number of a line of a log has to be."""
+def log_order(command: str, files: dict[str, str], name: str, line: int, text: bytes, patterns: int) -> str:
+    """What the number of a log's line has to be."""
     number = int(re.match(NUMBER, text)[0])
     if command in PARTIAL:
         beyond = number >= patterns and first_number(name) == 1
@@ -180,8 +181,8 @@ def log_order(command, files, name, line, text, patterns):
     return words + (mends.sentence(mend, "It seems that this log", name) if mend else "")
 
 
-def log_mend(kind, command, files, name, text, line):
-    """What a line of a log or of a list of vectors has, and what mends it; else how many bits such a line has."""
+def log_mend(kind: str, command: str, files: dict[str, str], name: str, text: bytes, line: int) -> str:
+    """What is wrong with a line of a log or a list of vectors, and what mends it; else how many bits such a line has."""
     width = sizes(kind, command, files)[1]
     numbered = kind == "vectors" and re.fullmatch(rb"[0-9]+ ([01x]+|-)\r?\n", text)
     if numbered and len(numbered[1]) != width and len(numbered[0].split()[0] + numbered[1]) != width:
@@ -191,8 +192,8 @@ def log_mend(kind, command, files, name, text, line):
     return mend or f" Here a line has {width} bit{'' if width == 1 else 's'}{'' if kind == 'vectors' else ' after its number'}."
 
 
-def log_syntax(kind, command, files, name, line, text, other):
-    """Where a line of a log leaves its form, and what the form is. `other` tells of what other kind the file is."""
+def log_syntax(kind: str, command: str, files: dict[str, str], name: str, line: int, text: bytes, other: str) -> tuple[int, str]:
+    """Where a line of a log leaves its form, and what the form is. `other` says which other kind of file it is, if it is one."""
     form, words = LIST_FORM if kind == "vectors" else SEEN_FORM if command in PARTIAL else WHOLE_FORM
     number = kind == "log" and re.match(NUMBER, text)
     alone = re.fullmatch(rb"[01 _]+\n?", text) and sum(it in b"01" for it in text) == sizes(kind, command, files)[1]
@@ -203,8 +204,8 @@ def log_syntax(kind, command, files, name, line, text, other):
     return first_wrong(text, form), f"{words}.{' `rank` and `suspects` take an x.' if partial else ''}{mend}"
 
 
-def log_place(kind, command, files, name, rule, line, text, other):
-    """The place of the caret in a line of a log or of a list of vectors, and what the rule asks."""
+def log_place(kind: str, command: str, files: dict[str, str], name: str, rule: str, line: int, text: bytes, other: str) -> tuple[int, str]:
+    """The place of the caret in a line of a log or of a list of vectors, and what the rule requires."""
     if rule == "TooLong":
         return 0, "The text has at most 1,073,741,824 bytes."
     if rule == "Syntax":
@@ -220,7 +221,7 @@ def log_place(kind, command, files, name, rule, line, text, other):
     return begin + min(width, bits), f"Each line has {width} bit{'' if width == 1 else 's'}, and this one has {bits}.{mend}"
 
 
-def result_place(rule, step, text):
+def result_place(rule: str, step: "int | None", text: bytes) -> int:
     """The place of the caret in a line of a result."""
     field, at = rb"[^ \n]+", 0
     if rule in ("BadTree", "LeafOpen"):
@@ -237,7 +238,7 @@ def result_place(rule, step, text):
     return found.start() if found else len(text.rstrip(b"\n"))
 
 
-def kind_of(name):
+def kind_of(name: str) -> "str | None":
     """What a file seems to be, if that can be seen."""
     file = plain_file(name)
     if not file:
@@ -247,8 +248,8 @@ def kind_of(name):
     return next((what for begin, what in (*HEADS, *LISTED) if re.match(begin, head)), None)
 
 
-def another(kind, command, name, file):
-    """What a file seems to be that is refused, if that is another than the one that is asked for, and how it is encoded."""
+def another(kind: str, command: str, name: str, file: io.BufferedReader) -> str:
+    """How a refused file is encoded, or else what it seems to be, if that is another kind than the one that is asked for."""
     file.seek(0)
     head = file.read(4096)
     encoded = mends.of_file(head, name)
@@ -261,8 +262,8 @@ def another(kind, command, name, file):
     return f" This file looks like {found}.{order}"
 
 
-def cut_or_feeds(kind, name, rule, text):
-    """What else is said of a refused line of a result or a plan: that the file was cut short, or how its lines end."""
+def cut_or_feeds(kind: str, name: str, rule: str, text: bytes) -> str:
+    """What replaces the rule for a refused line of a result or a plan: that the file was cut short, or how its lines end; empty if neither."""
     if rule == "Order" and not text:
         return "The file ends before its line `end`: it was cut short."
     if rule != "Syntax" or re.fullmatch(mends.FEEDS.form, text):
@@ -273,8 +274,10 @@ def cut_or_feeds(kind, name, rule, text):
     return "" if whole else "The file ends inside this line: it was cut short."
 
 
-def in_text(kind, command, files, name, rule, step, line, file, other):
-    """The place of the caret in a log, a result or a plan, and what the rule asks. `other` tells of what other kind the file is."""
+def in_text(
+    kind: str, command: str, files: dict[str, str], name: str, rule: str, step: "int | None", line: int, file: io.BufferedReader, other: str
+) -> tuple[int, str]:
+    """The place of the caret in a log, a result or a plan, and what the rule requires. `other` says which other kind of file it is, if any."""
     start = line_start(file, line)
     file.seek(start)
     text = file.readline(LONGEST)
@@ -290,8 +293,8 @@ def in_text(kind, command, files, name, rule, step, line, file, other):
     return start + place, cut_or_feeds(kind, name, rule, text) or sentence
 
 
-def explain(command, files, console):
-    """What a refusal on the console leaves open, as a text."""
+def explain(command: str, files: dict[str, str], console: str) -> str:
+    """A text that shows the place of a refusal on the console and what the rule requires; empty if the console has no refusal."""
     said = SAID.match(console)
     if not said:
         return ""

@@ -1,20 +1,21 @@
-"""What a report is about: a netlist, a result and a tester's log, and what the program's commands say of them.
+"""What a report is about: a netlist, a result and a tester's log, and what the program's commands say about them.
 
-The answers of single faults come of the helpers' own simulation. They are compared with what the commands print, so that the two agree
-wherever a page is made. `suspects`, `bridges` and `faults` run beside each other, and so does `cover`, if no single class explains all failing
-patterns. Each but `faults` checks the result."""
+The answers of single faults come from the helpers' own simulation. They are compared with what the commands print, and a page is made only if
+the two agree. `suspects`, `bridges` and `faults` run in parallel, and so does `cover`, if no single class explains all failing patterns. Each
+except `faults` checks the result."""
 
 import contextlib
 import functools
 import hashlib
-from typing import NamedTuple
+from typing import Iterable, NamedTuple
 
 import bench
+from report_runs import Run, Runs
 from results import Result, names_in, vectors_of
 
 
 class Score(NamedTuple):
-    """A line of `suspects`: how many failing patterns a number explains, and which bits it hits, misses and puts where none fails."""
+    """A line of `suspects`: how many failing patterns a number explains, and how many bits it hits, misses and predicts to fail that passed."""
 
     number: int
     explained: int
@@ -37,20 +38,20 @@ class Bridge(NamedTuple):
         return self.first, self.second
 
 
-def suspects_in(printed: list):
+def suspects_in(printed: list) -> tuple[list[Score], int, int]:
     """What the lines of `suspects` say: the scores, and how many patterns are failing and logged."""
     *lines, last = printed
     return [Score(*map(int, it.split())) for it in lines], int(last.split()[3]), int(last.split()[5])
 
 
-def bridges_in(printed: list):
-    """What the lines of `bridges` say: the best bridges, and how many of all that it found are exact."""
+def bridges_in(printed: list) -> tuple[list[Bridge], int]:
+    """What the lines of `bridges` say: the best bridges, and how many of all those found are exact."""
     *lines, last = printed
     rows = [it.split() for it in lines]
     return [Bridge(*names, int(explained), int(false)) for *names, explained, false in rows], int(last.split()[5])
 
 
-def cover_in(printed: list):
+def cover_in(printed: list) -> tuple[list[tuple[int, ...]], int]:
     """What the lines of `cover` say: each class with how many failing patterns are new with it, and how many are explained."""
     *lines, last = printed
     return [tuple(map(int, it.split())) for it in lines], int(last.split()[3])
@@ -83,8 +84,8 @@ def ones_in(word: int) -> int:
     return bin(word).count("1")
 
 
-def union(words) -> int:
-    """The patterns that stand in some of the words."""
+def union(words: Iterable[int]) -> int:
+    """The patterns that are in some of the words."""
     return functools.reduce(lambda one, other: one | other, words, 0)
 
 
@@ -98,9 +99,9 @@ def checksum(name: str) -> str:
 
 
 class Case:
-    """All that a page is made of. Words have a bit for each pattern of the result, or for each vector of the list that was applied."""
+    """All that a page is made from. Words have a bit for each pattern of the result, or for each vector of the list that was applied."""
 
-    def __init__(self, runs, netlist: str, result: str, log: str, applied: object = None):
+    def __init__(self, runs: Runs, netlist: str, result: str, log: str, applied: "str | None" = None):
         self.runs, self.files = runs, {"netlist": netlist, "result": result, "log": log}
         self.files |= {"vectors": applied} if applied is not None else {}
         self.read = {kind: runs.readable(kind, name) for kind, name in self.files.items()}
@@ -122,7 +123,7 @@ class Case:
         self.read_bridges(bridges)
 
     def words(self, log: str) -> list:
-        """The words of a command that reads a log of these patterns, behind its name."""
+        """The words after the name of a command that reads a log of these patterns."""
         applied = [f"--applied={self.read['vectors']}"] if "vectors" in self.read else []
         return [self.read["netlist"], self.read["result"], log, *applied]
 
@@ -130,21 +131,21 @@ class Case:
         """Whether nothing fails, or one class explains all failing patterns, so that nothing is left for `cover`."""
         return not self.failing_count or bool(self.suspects) and self.suspects[0].explained == self.failing_count
 
-    def read_early(self):
-        """Reads the netlist, which is right, and the result, while `suspects` checks it. Returns the result, or None where that can't be read."""
+    def read_early(self) -> "Result | None":
+        """Reads the netlist, which is right, and the result, while `suspects` checks that. Returns the result, or None if it can't be read."""
         self.netlist = bench.read(self.read["netlist"])
         with contextlib.suppress(OSError, ValueError, LookupError):
             return Result(self.read["result"])
 
-    def simulate(self):
-        """What a good chip answers to the patterns."""
+    def simulate(self) -> None:
+        """Computes what a good chip answers to the patterns."""
         self.patterns = vectors_of(self.read["vectors"]) if "vectors" in self.read else self.result.patterns
         self.full = (1 << len(self.patterns)) - 1
         self.free = bench.values(self.netlist, self.patterns)
         self.good = [self.free[it] for it in self.netlist.shown]
 
-    def read_bridges(self, run):
-        """What `bridges` says, if a pattern fails; else it isn't waited for."""
+    def read_bridges(self, run: Run) -> None:
+        """Reads what `bridges` says, if a pattern fails; else stops it."""
         if self.failing_count:
             self.bridges, self.exact_count = bridges_in(run.lines())
         else:
@@ -153,8 +154,8 @@ class Case:
         self.exact = [it for it in self.bridges if it.explained == self.failing_count and not it.false]
         self.agree(all(it[3:] == self.bridge_counts(it) for it in self.bridges), "the counts of the bridges")
 
-    def read_log(self):
-        """What was observed, and where it isn't what a good chip answers."""
+    def read_log(self) -> None:
+        """Reads what was observed, and finds where that isn't what a good chip answers."""
         rows, positions = rows_of(self.read["log"]), len(self.netlist.positions)
         self.ones, self.zeros = (words_of(rows, positions, it) for it in (ONES, ZEROS))
         self.logged = sum(1 << it for it in rows)
@@ -164,8 +165,8 @@ class Case:
         self.wrong_bits, self.seen_bits = (sum(map(ones_in, words)) for words in (self.wrong, self.seen))
         self.agree((ones_in(self.failing), len(rows)) == (self.failing_count, self.logged_count), "the failing patterns")
 
-    def take(self, numbers: list):
-        """Takes in numbers that are listed: the members of their classes with their names, and what each number explains."""
+    def take(self, numbers: list) -> None:
+        """Adds listed numbers: the members of their classes with their names, and what each number explains."""
         new = [it for it in dict.fromkeys(numbers) if it not in self.members]
         members = {it: self.result.members[self.result.classes[it]] for it in new}
         names = names_in(self.listing, {member for it in new for member in members[it]})
@@ -176,8 +177,8 @@ class Case:
             self.explain(it)
 
     def alike(self, number: int, members: list) -> list:
-        """The members of its class of the result that the list, if one was applied, doesn't tell from a number. Those that are equal answer as
-        the lowest, and those that are open may not."""
+        """The members of a number's class that the list, if one was applied, doesn't distinguish from the number. Equal members answer as the
+        lowest, and open ones may not."""
         if "vectors" not in self.files:
             return members
         standing = {it: it if self.result.evidence.get(it) == "O" else members[0] for it in members}
@@ -191,7 +192,7 @@ class Case:
 
     @functools.lru_cache(maxsize=32)
     def changes(self, number: int) -> list:
-        """Where the fault's answers aren't the good ones: a word for each position."""
+        """Where the fault's answers differ from the good ones: a word for each position."""
         return [answer ^ good for answer, good in zip(self.answers(number), self.good)]
 
     def missed(self, number: int) -> list:
@@ -202,9 +203,9 @@ class Case:
         """The bits that passed though the fault would fail them: a word for each position."""
         return [change & seen & ~wrong for change, seen, wrong in zip(self.changes(number), self.seen, self.wrong)]
 
-    def explain(self, number: int):
-        """Which failing patterns a number explains, at which logged ones it would fail that passed, and at which it would fail that have an
-        unobserved bit there."""
+    def explain(self, number: int) -> None:
+        """Computes which failing patterns a number explains, which patterns that passed it would fail, and at which patterns it would fail a bit
+        that wasn't observed."""
         missed, false = union(self.missed(number)), union(self.false(number))
         self.explained[number] = self.failing & ~missed & ~false
         self.shows[number] = false & ~self.failing
@@ -233,8 +234,8 @@ class Case:
         """The exact bridges, if no class predicts every observed bit."""
         return [] if any(map(self.perfect, self.suspects)) else self.exact
 
-    def agree(self, holds: bool, what: str):
-        """Stops where the program and the simulation of the helpers differ."""
+    def agree(self, holds: bool, what: str) -> None:
+        """Raises a ValueError if the program and the simulation of the helpers differ."""
         if not holds:
             raise ValueError(f"{what} of the program aren't those of the simulation in tools/desk: one of the two is wrong")
 
@@ -247,12 +248,12 @@ class Case:
         return self.logged_count == self.failing_count < len(self.patterns)
 
     def counts(self) -> dict:
-        """How many numbers, patterns and classes the result has, and how many members are equal to their lowest, and open."""
+        """How many numbers, patterns and classes the result has, and how many members are equal and open."""
         unclear = sum(self.result.evidence.get(it) == "O" for it in self.result.classes)
         numbers, classes = len(self.result.classes), len(set(self.result.classes.values()))
-        return {"numbers": numbers, "patterns": len(self.patterns), "classes": classes, "equal": numbers - classes - unclear, "open": unclear}
+        return {"numbers": numbers, "patterns": len(self.result.patterns), "classes": classes, "equal": numbers - classes - unclear, "open": unclear}
 
-    def coverage(self):
+    def coverage(self) -> tuple[int, int, int, int]:
         """How many faults there are, and how many of them are detected by some pattern, are untestable, and are aborted."""
         hidden = [number for number, its_class in self.result.classes.items() if its_class == 0 and number]
         aborted = sum(self.result.evidence.get(it) == "O" for it in hidden)

@@ -1,15 +1,17 @@
-"""Whether scan cells at an end of the chain never change, as behind a broken scan chain. Texts are plain."""
+"""Finds scan cells at an end of the chain that never change, as after a break in the scan chain. Texts are plain."""
 
 import functools
 from typing import NamedTuple
 
-FEWEST = 4  # scan cells of a chain that is looked at, and by which a part has to be longer to be told in the place of a simpler one
+from report_case import Case
+
+FEWEST = 4  # scan cells of the shortest chain that is examined, and by how many an end of both bits has to exceed one of a single bit
 CHECK = "check the scan chain before anything else"
-PART = 8  # scan cells of a part that says something
+PART = 8  # scan cells of a part that is long enough to mean something
 
 
 class Cell(NamedTuple):
-    """A scan cell: its name, the bit that it shows alone, None if it shows both or none, and whether a good chip would change it."""
+    """A scan cell: its name, the only bit that it shows (None if it shows both or none), and whether a good chip would change it."""
 
     name: str
     bit: object
@@ -25,12 +27,12 @@ class Dead(NamedTuple):
     of: int
 
 
-def constant(ones, zeros):
-    """The bit that a cell shows alone; None if it shows both, or if none was observed."""
+def constant(ones: int, zeros: int) -> "int | None":
+    """The only bit that a cell shows; None if it shows both, or if none was observed."""
     return None if bool(ones) == bool(zeros) else int(bool(ones))
 
 
-def scan_cells(case):
+def scan_cells(case: Case) -> list[Cell]:
     """The scan cells of a chip, in order."""
     found = []
     for (kind, name), ones, zeros, good in zip(case.netlist.positions, case.ones, case.zeros, case.good):
@@ -40,8 +42,8 @@ def scan_cells(case):
     return found
 
 
-def run(cells, bits):
-    """The cells, from the first on, that show one of these bits alone, up to the last that a good chip would change."""
+def run(cells: list[Cell], bits: tuple[int, ...]) -> Dead:
+    """The first cells that each show only one bit, one of these, up to the last that a good chip would change."""
     length = changing = 0
     for at, it in enumerate(cells, 1):
         if it.bit not in bits:
@@ -51,7 +53,7 @@ def run(cells, bits):
     return Dead(cells[:length], changing, len(cells))
 
 
-def longest(cells, kinds):
+def longest(cells: list[Cell], kinds: tuple[tuple[int, ...], ...]) -> Dead:
     """The longest such run at either end, for some kinds of bits."""
     ends = [run(cells, bits) for bits in kinds]
     ends += [it._replace(cells=it.cells[::-1]) for it in (run(cells[::-1], bits) for bits in kinds)]
@@ -59,9 +61,9 @@ def longest(cells, kinds):
 
 
 @functools.lru_cache(maxsize=None)
-def dead(case):
-    """The longest end of the chain whose cells never change though a good chip changes them; None if it is short. One whose cells all show the
-    same bit is preferred, unless another one is longer by some."""
+def dead(case: Case) -> "Dead | None":
+    """The longest end of the chain whose cells never change though a good chip changes them; None if it is short. An end whose cells all show the
+    same bit is preferred, unless it is short or an end of both bits has FEWEST more cells that a good chip changes."""
     cells = scan_cells(case)
     if len(cells) < FEWEST:
         return None
@@ -71,8 +73,8 @@ def dead(case):
     return found if found.changing >= enough else None
 
 
-def heading(it):
-    """What is said first of such cells."""
+def heading(it: Dead) -> str:
+    """What is said first about such cells."""
     zeros, count, whole = sum(cell.bit == 0 for cell in it.cells), len(it.cells), len(it.cells) == it.of
     both = f" ({zeros:,} read 0, {count - zeros:,} read 1)" if 0 < zeros < count else ""
     if whole and both:

@@ -1,17 +1,20 @@
-"""The part of a circuit that a report draws: the ways from the suspects to the failing positions, straight chains folded.
+"""The part of a circuit that a report draws: the paths from the suspects to the failing positions, with straight chains folded.
 
 A node is the name of a line, or the number of a position."""
 
-from typing import NamedTuple
+from typing import Iterator, NamedTuple
+
+from bench import Netlist
+from report_case import Bridge, Case
 
 MOST = 300  # nodes of a picture
-SITES = 16  # faults of a class that are drawn, where not all are
+SITES = 16  # faults of a class that are drawn, if not all are
 GOALS = 24  # failing positions, likewise
 BRIDGES = 3  # bridges whose nets are drawn
 
 
 class Edge(NamedTuple):
-    """A line that leads to a pin of the node behind it, through the gates that are folded."""
+    """A line that leads to a pin of a node, through the gates that are folded."""
 
     tail: str
     head: object
@@ -20,8 +23,7 @@ class Edge(NamedTuple):
 
 
 class Part(NamedTuple):
-    """What is drawn: the bridges and the numbers whose classes are shown, the faults of each, the nodes, the edges, and what was left out in
-    words."""
+    """What is drawn: the bridges, the numbers whose classes are shown, the faults of each, the nodes, the edges, and in words what was left out."""
 
     bridges: list
     numbers: list
@@ -31,21 +33,21 @@ class Part(NamedTuple):
     left_out: str
 
 
-def site(name):
-    """The node at which a fault stands."""
+def site(name: list[str]) -> "str | int":
+    """The node of a fault."""
     kind, line, *rest, _ = name
     return {"S": line, "G": rest[0] if rest else line, "O": int(rest[0]) if kind == "O" else 0}[kind]
 
 
-def readers(netlist, shown_at, line):
+def readers(netlist: Netlist, shown_at: dict[str, list[int]], line: str) -> "Iterator[tuple[str | int, int]]":
     """The nodes that read a line, with the pin that does."""
     yield from netlist.readers.get(line, ())
     for at in shown_at.get(line, ()):
         yield at, 0
 
 
-def whole_cone(netlist, sites, goals):
-    """All edges on ways from the sites to the goals."""
+def whole_cone(netlist: Netlist, sites: list, goals: list[int]) -> list[Edge]:
+    """All edges on paths from the sites to the goals."""
     ahead = netlist.cone([it for it in sites if isinstance(it, str)])
     back = {netlist.shown[it] for it in goals if netlist.shown[it] in ahead}
     edges = [Edge(netlist.shown[it], it, 0) for it in goals if netlist.shown[it] in ahead]
@@ -61,8 +63,8 @@ def whole_cone(netlist, sites, goals):
     return edges
 
 
-def ways(netlist, sites, goals):
-    """The edges of a shortest way to each goal from the nearest site."""
+def ways(netlist: Netlist, sites: list, goals: list[int]) -> list[Edge]:
+    """The edges of a shortest path to each goal from the nearest site."""
     shown_at = {}
     for at in goals:
         shown_at.setdefault(netlist.shown[at], []).append(at)
@@ -83,7 +85,7 @@ def ways(netlist, sites, goals):
     return list(found.values())
 
 
-def neighbours(edges):
+def neighbours(edges: list[Edge]) -> tuple[dict, dict]:
     """The edges into each node, and those out of it."""
     into, out = {}, {}
     for it in edges:
@@ -92,8 +94,8 @@ def neighbours(edges):
     return into, out
 
 
-def folded(edges, kept):
-    """The edges with each chain of two gates or more, between nodes that branch or are kept, as one edge."""
+def folded(edges: list[Edge], kept: set) -> list[Edge]:
+    """The edges, with each chain of two gates or more between nodes that branch or are kept as one edge."""
     into, out = neighbours(edges)
     inner = {it for it in into if it not in kept and len(into[it]) == 1 and len(out.get(it, ())) == 1}
     found = []
@@ -111,8 +113,8 @@ def folded(edges, kept):
     return found
 
 
-def reached(edges, starts):
-    """The nodes to which the edges lead from some, these too."""
+def reached(edges: list[Edge], starts: set) -> set:
+    """The nodes to which the edges lead from the starts, and the starts."""
     _, out = neighbours(edges)
     found, stack = set(starts), list(starts)
     while stack:
@@ -123,7 +125,7 @@ def reached(edges, starts):
     return found
 
 
-def attempts(numbers, goals):
+def attempts(numbers: list[int], goals: list[int]) -> "Iterator[tuple[int, bool, int | None, list[int]]]":
     """What may be drawn, the most first: how many classes, whether whole cones, how many faults of each, and which failing positions."""
     tops = sorted({min(it, len(numbers)) for it in (len(numbers), 10, 5, 3, 2)}, reverse=True)
     for top in tops:
@@ -133,13 +135,13 @@ def attempts(numbers, goals):
             yield top, False, most, goals[:GOALS]
 
 
-def drawn_bridges(case):
+def drawn_bridges(case: Case) -> list[Bridge]:
     """The bridges whose nets are drawn: the first exact ones, if no class is exact."""
     return case.bridged()[:BRIDGES]
 
 
-def part(case):
-    """What is drawn of a case: as much as stays below so many nodes."""
+def part(case: Case) -> "Part | None":
+    """What is drawn of a case: as much as has at most MOST nodes; None if nothing has."""
     goals = sorted((it for it, word in enumerate(case.wrong) if word), key=lambda it: (-bin(case.wrong[it]).count("1"), it))
     numbers, bridges = list(case.members), drawn_bridges(case)
     ends = [line for it in bridges for line in it.lines()]
@@ -155,7 +157,7 @@ def part(case):
     return None
 
 
-def left_out(case, top, whole, most, goals, positions, nodes):
+def left_out(case: Case, top: int, whole: bool, most: "int | None", goals: list[int], positions: list[int], nodes: set) -> str:
     """What isn't drawn, in words."""
     said = [] if top == len(case.members) else [f"the picture has the first {top} of {len(case.members)} classes"]
     if not whole:

@@ -1,4 +1,4 @@
-"""When a page is made, and by what."""
+"""Says when a page is made, and by what."""
 
 import datetime
 import os
@@ -11,7 +11,7 @@ from report_case import checksum
 from results import TOP
 
 
-def commit():
+def commit() -> "str | None":
     """The commit of these tools, if it is known."""
     if os.path.exists(f"{TOP}/version"):
         with open(f"{TOP}/version", encoding="utf-8") as file:
@@ -22,7 +22,7 @@ def commit():
     return None if it.returncode else it.stdout.strip()
 
 
-def made():
+def made() -> str:
     """When the page is made, and by what."""
     seconds, tools = os.environ.get("SOURCE_DATE_EPOCH"), commit()
     day = datetime.datetime.fromtimestamp(int(seconds), datetime.timezone.utc).date() if seconds else datetime.date.today()

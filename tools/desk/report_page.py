@@ -3,14 +3,16 @@
 import os
 import shlex
 from html import escape
+from typing import Iterator
 
 import report_bridges
 import report_step as steps
 import report_words as words
-from report_case import numbers_in, ones_in
+from report_case import Case, Score, numbers_in, ones_in
 from report_graph import drawn_bridges
 from report_kinds import kind, nets, unnamed
 from report_place import by_net, place, position, spot
+from report_wrong_log import Doubt
 from usage import INSTALLED
 
 HERE = os.path.dirname(os.path.realpath(__file__))
@@ -34,43 +36,43 @@ CLASSES = (
 )
 
 
-def cell(text, kind="t", label=""):
-    """A cell of a row: its text is HTML, its kind c (count), n (name), p (place) or t (text), its label what stands above it."""
+def cell(text: str, kind: str = "t", label: str = "") -> str:
+    """A cell of a row: its text is HTML, its kind c (count), n (name), p (place) or t (text), and its label the heading of its column."""
     mark = {"c": ' class="count"', "n": ' class="name"', "p": ' class="name place"', "t": ""}[kind]
     return f'<td{mark} data-label="{label}">{text}</td>'
 
 
-def row(heads, kinds, texts, number=None, mark=""):
-    """A row of cells. With a number it lights the class of that number."""
+def row(heads: list[str], kinds: str, texts: list[str], number: "int | str | None" = None, mark: str = "") -> str:
+    """A row of cells. With a number, a click on it highlights the class or the bridge of that number."""
     lights = f' data-class="{number}"' if number is not None else ""
     return f"<tr{lights}{mark}>{''.join(cell(text, kind, head) for head, kind, text in zip(heads, kinds, texts))}</tr>"
 
 
-def table(heads, kinds, rows):
+def table(heads: list[str], kinds: str, rows: list[str]) -> str:
     """A table with a head."""
     top = "".join(f'<th class="count">{it}</th>' if kind == "c" else f"<th>{it}</th>" for it, kind in zip(heads, kinds))
     body = "\n".join(rows)
     return f"<table>\n<thead><tr>{top}</tr></thead>\n<tbody>\n{body}\n</tbody>\n</table>"
 
 
-def folded(shown, hidden, said):
-    """HTML texts on a line each, of which some are shown when their line is clicked."""
+def folded(shown: list[str], hidden: list[str], said: str) -> str:
+    """HTML texts on a line each. The hidden ones are shown when the line `said` is clicked."""
     more = f'<details><summary>{said}</summary>{"<br>".join(hidden)}</details>' if hidden else ""
     return "<br>".join(shown) + more
 
 
-def listed(texts, most=NAMED):
+def listed(texts: list[str], most: int = NAMED) -> str:
     """Some texts, escaped, the last ones folded."""
     shown = escape(", ".join(texts[:most]))
     return shown + folded([], [escape(", ".join(texts[most:]))], f"and {len(texts) - most:,} more") if len(texts) > most else shown
 
 
-def paragraph(text, kind=""):
+def paragraph(text: str, kind: str = "") -> str:
     """A paragraph of plain text."""
     return f"<p{kind}>{escape(text)}</p>"
 
 
-def verdict(case, said):
+def verdict(case: Case, said: words.Verdict) -> str:
     """The verdict: its heading and its sentences, and how much fails."""
     more = "".join(paragraph(it) for it in said.more)
     counts = "".join(f"<p>{kind}: {text}.</p>" for kind, text in observed(case))
@@ -78,7 +80,7 @@ def verdict(case, said):
     return f'<div class="verdict{"" if case.failing else " good"}"><h2>{escape(said.heading)}.</h2>{link}{more}{counts}</div>'
 
 
-def about(case, made):
+def about(case: Case, made: str) -> str:
     """What the report is about."""
     netlist, count = case.netlist, words.count
     scan = sum(kind == "cell" for kind, _ in netlist.sources)
@@ -93,7 +95,7 @@ def about(case, made):
     return f'<h2>Circuit, test and log</h2>\n<table class="about"><tbody>\n{body}\n</tbody></table>'
 
 
-def coverage(case):
+def coverage(case: Case) -> Iterator[tuple[str, str]]:
     """The coverage, by the names of the field."""
     faults, detected, untestable, aborted = case.coverage()
     yield "Fault coverage", f"{words.share(detected, faults)}: {detected:,} of {words.count(faults, 'fault')} detected"
@@ -102,7 +104,7 @@ def coverage(case):
     yield "Aborted", f"{aborted:,}: a budget ended before a vector or a proof was found"
 
 
-def observed(case):
+def observed(case: Case) -> Iterator[tuple[str, str]]:
     """What was observed and what fails; red if more than a tenth of the bits do."""
     yield "Logged", f"{case.logged_count:,} of {words.count(len(case.patterns), 'pattern')}, {words.count(case.seen_bits, 'observed bit')}"
     bits = f"{case.wrong_bits:,} of {words.count(case.seen_bits, 'observed bit')}, {words.share(case.wrong_bits, case.seen_bits or 1)}"
@@ -110,7 +112,7 @@ def observed(case):
     yield "Failing", f"{case.failing_count:,} of {words.count(case.logged_count, 'logged pattern')}; {bits}"
 
 
-def tried(doubt):
+def tried(doubt: Doubt) -> str:
     """What was tried with a log that is doubted."""
     heads, kinds, rows = ["change of the log", "failing patterns", "failing bits", "explained by one class"], "tccc", []
     for it in sorted(doubt.tries, key=lambda it: it.wrong / (it.seen or 1)):
@@ -121,7 +123,7 @@ def tried(doubt):
     return f'<h2>Other orders, polarities and patterns</h2>\n{table(heads, kinds, rows)}\n<p class="note">{said}</p>'
 
 
-def member(case, number):
+def member(case: Case, number: int) -> str:
     """A fault of a class, with how it is shown to be equal to the lowest; an open one is marked."""
     mark, name = case.result.evidence.get(number), case.names[number]
     how = f", {EVIDENCE.get(mark, mark)}" if mark else ""
@@ -129,8 +131,8 @@ def member(case, number):
     return f'<span class="open">{said}</span>' if mark == "O" else said
 
 
-def faults(case, number):
-    """The faults of a class by net, nearest to the inputs first; those behind the third net are folded."""
+def faults(case: Case, number: int) -> str:
+    """The faults of a class by net, nearest to the inputs first; those after the third net are folded."""
     if len(case.members[number]) == 1:
         return "this one only"
     lines = [f"net {escape(net)}: {', '.join(member(case, it) for it in found)}" for net, found in by_net(case, number).items()]
@@ -138,13 +140,13 @@ def faults(case, number):
     return folded(lines[:NETS], lines[NETS:], f"{words.count(hidden, 'more fault')} on {words.count(len(lines) - NETS, 'more net')}")
 
 
-def where(case, number):
+def where(case: Case, number: int) -> str:
     """Where most of a class lies."""
     found = spot(case, number)
     return f"<b>{escape(found.where)}</b><br>{escape(found.what)}"
 
 
-def defect(case, it):
+def defect(case: Case, it: Score) -> str:
     """The kind of defect that fits a suspect."""
     found = kind(case, it)
     said = escape(found.word + (f": net {nets(found.partners)} at its other end" if found.partners else ""))
@@ -152,7 +154,7 @@ def defect(case, it):
     return said + (folded([], [escape(", ".join(rest))], f"the other {words.count(len(rest), 'net')}") if rest else "")
 
 
-def suspects(case, doubt):
+def suspects(case: Case, doubt: "Doubt | None") -> str:
     """A row for each suspect class; those that contradict the log are grey if the first is perfect."""
     heads = ["#", "number", "where", "kind of defect", "explained", "hit", "missed", "false", "faults of the class"]
     kinds, rows = "ccntccccn", []
@@ -169,7 +171,7 @@ def suspects(case, doubt):
     return f'<h2>{head}</h2>\n{table(heads, kinds, rows)}\n<p class="note">{note}</p>'
 
 
-def on_bridges(case):
+def on_bridges(case: Case) -> Iterator[str]:
     """How the exact bridges are to be read, in sentences."""
     if case.exact_count > 1:
         yield "More than one answers alike at these patterns: the log can't tell them apart, but the layout may."
@@ -179,7 +181,7 @@ def on_bridges(case):
         yield "This is a second reading, since a stuck-at fault fits, too: a net that is shorted to a constant one behaves as if it were stuck."
 
 
-def bridges(case):
+def bridges(case: Case) -> str:
     """A row for each exact bridge that is listed."""
     heads, kinds, rows = ["#", "kind", "first net", "second net", "explained", "false"], "ctnncc", []
     drawn = len(drawn_bridges(case))
@@ -192,8 +194,8 @@ def bridges(case):
     return f'<h2>Bridges: {head} exactly</h2>\n{said}{table(heads, kinds, rows)}\n<p class="note">{note}</p>'
 
 
-def cover(case):
-    """The classes that together explain the failing patterns, the best suspect standing for each that is as good."""
+def cover(case: Case) -> str:
+    """The classes that together explain the failing patterns. The best suspect that is as good takes the place of each."""
     heads, kinds, rows = ["#", "number", "where", "explained", "newly explained", "equally good"], "ccnccn", []
     for (_, others), (_, new) in zip(words.also(case), case.cover):
         number = others[0]
@@ -208,7 +210,7 @@ def cover(case):
     return f'<h2>Together: {head}</h2>\n{table(heads, kinds, rows)}\n<p>{said}</p>\n<p class="note">{note}</p>'
 
 
-def vector(case, step):
+def vector(case: Case, step: steps.Step) -> str:
     """The pattern that a step asks for, by the names of the sources, folded, and its bits."""
     bits = (case.result.patterns if step.further else case.patterns)[step.pattern]
     rows = []
@@ -220,7 +222,7 @@ def vector(case, step):
     return f"<details><summary>{said}</summary>{''.join(rows)}{bits}</details>"
 
 
-def left_open(case):
+def left_open(case: Case) -> str:
     """What the first suspect leaves open, by position."""
     heads, kinds, rows = ["output or scan cell", "missed", "false", "patterns"], "ncct", []
     for it in steps.left_open(case, case.suspects[0].number):
@@ -229,13 +231,13 @@ def left_open(case):
     return folded_rows(heads, kinds, rows, "The bits that the first suspect misses, and those it has false") if rows else ""
 
 
-def folded_rows(heads, kinds, rows, said, begins=" open"):
-    """A table that is shown when its line is clicked; one that is short is shown at once, unless something else is said."""
+def folded_rows(heads: list[str], kinds: str, rows: list[str], said: str, begins: str = " open") -> str:
+    """A table that is shown when its line is clicked. A short one is shown at once, unless `begins` is empty."""
     begins = begins if len(rows) <= OPEN_ROWS else ""
     return f"<details{begins}><summary>{said}: {words.count(len(rows), 'row')}</summary>{table(heads, kinds, rows)}</details>"
 
 
-def next_step(case, doubt):
+def next_step(case: Case, doubt: "Doubt | None") -> str:
     """The next step."""
     step = steps.next_step(case, doubt)
     body = [paragraph(it) for it in step.said]
@@ -244,7 +246,7 @@ def next_step(case, doubt):
     return '<div id="next"></div>\n<h2>The next step</h2>\n' + "\n".join(body)
 
 
-def drawing(case, svg, said):
+def drawing(case: Case, svg: str, said: str) -> str:
     """The picture and what it leaves out."""
     key = '<span class="key" style="background:#c62828"></span>first suspect<span class="key" style="background:#ef9a9a"></span>second and third'
     key += '<span class="key" style="background:#fbdcdc"></span>others<span class="key" style="background:#ffb74d"></span>failing position'
@@ -255,7 +257,7 @@ def drawing(case, svg, said):
     return "<h2>Where they are</h2>\n" + (f'<div class="picture">{svg}</div>\n{note}' if svg else "") + said
 
 
-def positions(case):
+def positions(case: Case) -> str:
     """The failing positions by name."""
     heads, kinds, rows = ["position", "output or scan cell", "net", "fails at", "patterns"], "cnnct", []
     for at, word in enumerate(case.wrong):
@@ -269,7 +271,7 @@ def positions(case):
     return f"<h2>{head}</h2>\n{table(heads, kinds, rows[:OPEN_ROWS])}{rest}"
 
 
-def grouped(case):
+def grouped(case: Case) -> list[tuple[tuple[str, ...], int]]:
     """The failing patterns by the suspects that explain them: those that none explains first, then the largest group."""
     groups = {}
     for pattern in numbers_in(case.failing):
@@ -278,7 +280,7 @@ def grouped(case):
     return sorted(groups.items(), key=lambda it: (bool(it[0]), -ones_in(it[1]), it[1]))
 
 
-def patterns(case):
+def patterns(case: Case) -> str:
     """The failing patterns, grouped by who explains them."""
     heads, kinds, rows = ["explained by", "how many", "patterns", "failing bits", "at"], "tctct", []
     groups = grouped(case)
@@ -293,7 +295,7 @@ def patterns(case):
     return f"<h2>{head}</h2>\n{table(heads, kinds, rows)}{more}"
 
 
-def again(case, page):
+def again(case: Case, page: str) -> str:
     """The commands that make it all again."""
     netlist, result, log, *applied = (shlex.quote(it if not it.startswith("-") else f"./{it}") for it in case.files.values())
     log += "".join(f" --applied {it}" for it in applied)
@@ -305,8 +307,8 @@ def again(case, page):
     return f"<h2>To make it again</h2>\n<pre>{escape(chr(10).join(lines))}</pre>"
 
 
-def chapters(case, doubt, picture):
-    """The chapters that a chip that fails has."""
+def chapters(case: Case, doubt: "Doubt | None", picture: tuple[str, str]) -> list[str]:
+    """The chapters for a chip that fails."""
     return [
         *([tried(doubt)] if doubt else []),
         *([suspects(case, doubt)] if case.suspects else []),
@@ -319,7 +321,7 @@ def chapters(case, doubt, picture):
     ]
 
 
-def page(case, doubt, name, picture, made):
+def page(case: Case, doubt: "Doubt | None", name: str, picture: tuple[str, str], made: str) -> str:
     """The whole page, in its order."""
     log, circuit = (os.path.basename(case.files[it]) for it in ("log", "netlist"))
     title = escape(f"{log}: diagnosis of a chip of {os.path.splitext(circuit)[0]}")
@@ -328,8 +330,8 @@ def page(case, doubt, name, picture, made):
     return document(title, [*body, about(case, made), again(case, name)], "report.css")
 
 
-def document(title, body, *styles):
-    """A page with this title and these parts, all of them HTML, and with these files of styles."""
+def document(title: str, body: list[str], *styles: str) -> str:
+    """A page with this title and these parts, all of them HTML, and with these style sheets."""
     style = "".join(open(f"{HERE}/{it}", encoding="utf-8").read() for it in styles)
     script = open(f"{HERE}/report.js", encoding="utf-8").read()
     top = '<!doctype html>\n<html lang="en">\n<head>\n<meta charset="utf-8">\n<meta name="viewport" content="width=device-width">\n'

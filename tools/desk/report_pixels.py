@@ -3,10 +3,11 @@
 import collections
 import struct
 import zlib
+from typing import Iterator
 
 
-def rows_of(data, wide, size):
-    """The rows of a PNG's pixels, without the filters of each."""
+def rows_of(data: bytes, wide: int, size: int) -> Iterator[bytearray]:
+    """The rows of a PNG's pixels, with the filter of each undone."""
     line, before = wide * size, bytearray(wide * size)
     for start in range(0, len(data), line + 1):
         kind, row = data[start], bytearray(data[start + 1 : start + 1 + line])
@@ -26,7 +27,7 @@ def rows_of(data, wide, size):
         before = row
 
 
-def colours(image):
+def colours(image: str) -> dict[tuple[int, ...], int]:
     """How many pixels of a PNG have each colour."""
     with open(image, "rb") as file:
         file.seek(8)

@@ -1,8 +1,11 @@
-"""Where the faults of a class stand: the gate around which most of them lie, and all of them by net."""
+"""Where the faults of a class are: the gate around which most of them lie, and all of them by net."""
 
 import functools
 import re
-from typing import NamedTuple
+from typing import Iterator, NamedTuple
+
+from bench import Netlist
+from report_case import Case
 
 PINS = 4  # pins of a gate that are named
 NETS = 4  # nets of a class that are named
@@ -18,7 +21,7 @@ class Spot(NamedTuple):
 
 
 class Near(NamedTuple):
-    """A member of a class as it stands at a gate: a pin of it, or None for its output; the value; and the net, if its stem is the member."""
+    """A member of a class at a gate: its pin, or None for the output; the stuck value; and the net, if the member is the stem of a net."""
 
     member: int
     pin: object
@@ -26,19 +29,19 @@ class Near(NamedTuple):
     net: object
 
 
-def driver(netlist, line):
+def driver(netlist: Netlist, line: str) -> str:
     """What drives a line: the gate's word, `input` or `scan cell`."""
     return {"input": "input", "cell": "scan cell"}[netlist.kinds[line]] if line in netlist.kinds else netlist.gates[line][0]
 
 
-def position(netlist, at):
+def position(netlist: Netlist, at: int) -> str:
     """A position by name."""
     kind, name = netlist.positions[at]
     return f"output {name}" if kind == "output" else f"scan cell {name}"
 
 
-def place(netlist, name):
-    """Where a fault stands: the output of a gate, a pin of one, or a position."""
+def place(netlist: Netlist, name: list[str]) -> str:
+    """Where a fault is: the output of a gate or another line, a pin of a gate, or a position."""
     kind, line, *site, _ = name
     if kind == "G":
         return f"pin {site[1]} of {netlist.gates[site[0]][0]} {site[0]}"
@@ -49,8 +52,8 @@ def place(netlist, name):
     return f"{driver(netlist, line)} {line}"
 
 
-def at_gates(netlist, member, name):
-    """The gates at which a member stands, and how."""
+def at_gates(netlist: Netlist, member: int, name: list[str]) -> Iterator[tuple[str, Near]]:
+    """The gates at which a member is, and the member as it is there."""
     kind, line, *site, value = name
     if kind == "G":
         yield site[0], Near(member, int(site[1]), value, None)
@@ -64,12 +67,12 @@ def at_gates(netlist, member, name):
         yield gate, Near(member, pin, value, line)
 
 
-def either(texts):
+def either(texts: list[str]) -> str:
     """Some texts, with `or` before the last."""
     return texts[0] if len(texts) == 1 else f"{', '.join(texts[:-1])} or {texts[-1]}"
 
 
-def stuck_pins(near, all_pins):
+def stuck_pins(near: list[Near], all_pins: int) -> list[str]:
     """Which pins of a gate are stuck, in words."""
     said = []
     for value in "01":
@@ -81,14 +84,14 @@ def stuck_pins(near, all_pins):
     return said
 
 
-def at_gate(case, gate, near, members):
+def at_gate(case: Case, gate: str, near: list[Near], members: int) -> Spot:
     """The spot of a class around a gate."""
     word, pins = case.netlist.gates[gate]
     said = stuck_pins(near, len(pins)) + [f"its output stuck at {it.value}" for it in near if it.pin is None]
     return Spot(f"gate {word} {gate}", ", or ".join(said), True, members - len({it.member for it in near}))
 
 
-def alone(case, member, members):
+def alone(case: Case, member: int, members: int) -> Spot:
     """The spot of a single member."""
     name = case.names[member]
     kind, line, *_, value = name
@@ -97,15 +100,15 @@ def alone(case, member, members):
     return Spot(where, f"stuck at {value}{behind}", False, members - 1)
 
 
-def nearest_first(case, members):
+def nearest_first(case: Case, members: list[int]) -> list[int]:
     """Members, those nearest to the inputs first, and the stem of a net before its branches."""
     levels = case.netlist.levels
     return sorted(members, key=lambda it: (levels[case.names[it][1]], case.names[it][1], case.names[it][0] != "S", it))
 
 
 @functools.lru_cache(maxsize=None)
-def spot(case, number):
-    """Where most of a class lies: at the gate with most of its members, of several the nearest to the inputs."""
+def spot(case: Case, number: int) -> Spot:
+    """Where most of a class lies: at the gate with most of its members, and if there are several, at the one nearest to the inputs."""
     members, gates = case.members[number], {}
     for member in members:
         for gate, near in at_gates(case.netlist, member, case.names[member]):
@@ -116,8 +119,8 @@ def spot(case, number):
     return at_gate(case, best, gates[best], len(members))
 
 
-def on_nets(case, number):
-    """A class whose faults stand in several places, by its nets in words, those nearest to the inputs first."""
+def on_nets(case: Case, number: int) -> str:
+    """A class whose faults are in several places, by its nets in words, those nearest to the inputs first."""
     nets = list(by_net(case, number))
     named = nets[:NETS] if len(nets) > NETS + 1 else nets
     rest = [f"{len(nets) - NETS:,} more"] if len(nets) > NETS + 1 else []
@@ -125,8 +128,8 @@ def on_nets(case, number):
     return f"one of {len(case.members[number]):,} faults that answer alike, on nets {said}"
 
 
-def in_full(case, number):
-    """A class in words, as the subject of a verdict. One gate or one net names it only if all its faults stand there."""
+def in_full(case: Case, number: int) -> str:
+    """A class in words, as the subject of a verdict. One gate or one net names it only if all its faults are there."""
     found = spot(case, number)
     if not found.more:
         return f"at {found.where}: {found.what}" if found.gate else f"{found.where} {found.what}"
@@ -135,8 +138,8 @@ def in_full(case, number):
     return f"{in_short(case, number)} ({found.more:,} more equal fault{'' if found.more == 1 else 's'})"
 
 
-def in_short(case, number):
-    """A class in words, inside a sentence: without parts in parentheses that hold others."""
+def in_short(case: Case, number: int) -> str:
+    """A class in words, inside a sentence: without nested parentheses."""
     found = spot(case, number)
     if not found.gate:
         return f"{found.where} {found.what.partition(' (')[0]}"
@@ -144,7 +147,7 @@ def in_short(case, number):
     return f"a fault at {found.where} ({re.sub(' [(].*?[)]', '', sites[-1])}, or an equal fault)"
 
 
-def in_counts(case, number):
+def in_counts(case: Case, number: int) -> str:
     """A class in words, inside a sentence, with how many faults are equal to the one that is named."""
     said, others = in_short(case, number), len(case.members[number]) - 1
     if not others:
@@ -153,13 +156,13 @@ def in_counts(case, number):
     return said.replace(", or an equal fault)", f"; {equal})") if spot(case, number).gate else f"{said} ({equal})"
 
 
-def stems(case, number):
+def stems(case: Case, number: int) -> list[tuple[str, str]]:
     """The nets whose stems are members of a class, with the values at which they are stuck."""
     names = [case.names[it] for it in nearest_first(case, case.members[number])]
     return [(line, value) for kind, line, *_, value in names if kind == "S"]
 
 
-def by_net(case, number):
+def by_net(case: Case, number: int) -> dict[str, list[int]]:
     """The members of a class by net, the net nearest to the inputs first."""
     found = {}
     for it in nearest_first(case, case.members[number]):

@@ -1,10 +1,11 @@
-"""The commands that a report runs beside each other, and the files that they read."""
+"""The commands that a report runs in parallel, and the files that they read."""
 
 import os
 import shutil
 import stat
 import subprocess
 import tempfile
+from typing import BinaryIO
 
 from program import built
 from results import TOP
@@ -20,8 +21,8 @@ class Ended(Exception):
         self.status = status if status >= 0 else 128 - status
 
 
-def read(file) -> bytes:
-    """All that an open file has."""
+def read(file: BinaryIO) -> bytes:
+    """The whole content of an open file."""
     file.seek(0)
     return file.read()
 
@@ -29,7 +30,7 @@ def read(file) -> bytes:
 class Run:
     """A command that was started. What it prints goes to a file, so that it never waits for a reader."""
 
-    def __init__(self, runs, words):
+    def __init__(self, runs: "Runs", words: tuple[str, ...]) -> None:
         self.runs = runs
         self.out, self.error = (tempfile.TemporaryFile(dir=runs.folder) for _ in range(2))
         self.child = subprocess.Popen([runs.command, *words], stdout=self.out, stderr=self.error, env=runs.environment)
@@ -39,7 +40,7 @@ class Run:
         return self.child.wait() == 0
 
     def lines(self, quiet: bool = False) -> list:
-        """Waits for the end, and returns the lines that it printed. What it told goes to standard error, unless this is to be quiet."""
+        """Waits for the end, and returns the lines that it printed. Its standard error is passed on, unless `quiet`."""
         status, printed = self.child.wait(), read(self.out).decode("latin-1")
         if not quiet:
             say(self.runs.told(read(self.error).decode("utf-8", "surrogateescape")))
@@ -47,7 +48,7 @@ class Run:
             raise Ended(status, self.runs.told(printed))
         return printed.splitlines()
 
-    def stop(self):
+    def stop(self) -> None:
         """Stops the command if it still runs."""
         if self.child.poll() is None:
             self.child.terminate()
@@ -57,7 +58,7 @@ class Run:
 
 
 class Runs:
-    """The commands of a report, in a folder for what they leave. Those that still run at the end of its `with` are stopped."""
+    """The commands of a report, in a folder for the files that they leave. Those that still run at the end of its `with` are stopped."""
 
     command = f"{TOP}/diatest"
 
@@ -69,10 +70,10 @@ class Runs:
             raise Ended(1, "")
         self.environment = {**os.environ, "DIATEST": program, HELPER: helper}
 
-    def __enter__(self):
+    def __enter__(self) -> "Runs":
         return self
 
-    def __exit__(self, *_):
+    def __exit__(self, *_: object) -> None:
         for it in self.started:
             it.stop()
 
@@ -82,14 +83,14 @@ class Runs:
         return self.started[-1]
 
     def told(self, text: str) -> str:
-        """A text with the user's words in the place of the names of copies."""
+        """A text with the user's words in place of the names of copies."""
         for copy, word in self.copies.items():
             text = text.replace(copy, word)
         return text
 
     def readable(self, kind: str, name: str) -> str:
-        """A name under which a file can be read as often as needed: its own, or that of a copy if it is a pipe or a device. No command takes it
-        for an option."""
+        """A name under which a file can be read as often as needed: its own, or that of a copy if it is a pipe or a device. No command takes the
+        name for an option."""
         if name.startswith("-"):
             name = f"./{name}"
         try:

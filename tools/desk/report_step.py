@@ -1,20 +1,21 @@
-"""What a report says of the next step: what the first suspect leaves open, what tells the first two apart, and what the lab does. Plain
-text; a pattern to apply stands beside the sentence that asks for it."""
+"""What a report says about the next step: what the first suspect leaves open, what distinguishes the first two, and what the lab does. All texts
+are plain; a pattern to apply is kept beside the sentence that asks for it."""
 
 from typing import NamedTuple
 
 import bench
 from report_bridges import layout
-from report_case import numbers_in, ones_in, union
+from report_case import Case, Score, numbers_in, ones_in, union
 from report_chain import dead
 from report_place import in_short, position
 from report_words import count
+from report_wrong_log import Doubt
 
 NAMED = 8  # patterns or positions in a sentence
 
 
 class Step(NamedTuple):
-    """Sentences, the pattern that they ask for, if they do, and whether that is one of the result though a list was applied."""
+    """Sentences, the pattern that they ask for, if any, and whether it is a pattern of the result although a list was applied."""
 
     said: list
     pattern: object = None
@@ -29,33 +30,33 @@ class Left(NamedTuple):
     false: int
 
 
-def left_open(case, number):
+def left_open(case: Case, number: int) -> list[Left]:
     """Where a suspect misses bits or has false ones, the most first."""
     words = enumerate(zip(case.missed(number), case.false(number)))
     found = [Left(at, missed, false) for at, (missed, false) in words if missed or false]
     return sorted(found, key=lambda it: (-ones_in(it.missed) - ones_in(it.false), it.at))
 
 
-def some(texts, most=NAMED):
+def some(texts: list[str], most: int = NAMED) -> str:
     """Some texts, and how many more there are."""
     return ", ".join(texts[:most]) + (f" and {len(texts) - most:,} more" if len(texts) > most else "")
 
 
-def patterns(word):
+def patterns(word: int) -> str:
     """The patterns of a word, in words."""
     found = numbers_in(word)
     return f"{'pattern' if len(found) == 1 else 'patterns'} {some([str(it) for it in found])}"
 
 
-def at_positions(case, words, one, many):
-    """How many bits stand at which positions, in words."""
+def at_positions(case: Case, words: list[int], one: str, many: "str | None") -> str:
+    """How many bits there are and at which positions, in words."""
     found = [(ones_in(word), at) for at, word in enumerate(words) if word]
     total = sum(bits for bits, _ in found)
     named = some([position(case.netlist, at) for _, at in sorted(found, key=lambda it: (-it[0], it[1]))], 4)
     return f"{count(total, one, many)}, {'all at ' if len(found) == 1 and total > 1 else 'at '}{named}"
 
 
-def first_leaves(case, it):
+def first_leaves(case: Case, it: Score) -> list[str]:
     """Which bits the first suspect misses, and which it has false."""
     said = []
     if it.missed:
@@ -70,13 +71,13 @@ def first_leaves(case, it):
     return said
 
 
-def differ(case, one, other):
+def differ(case: Case, one: int, other: int) -> list[int]:
     """The bits that two numbers answer differently: a word for each position."""
     return [a ^ b for a, b in zip(case.answers(one), case.answers(other))]
 
 
-def fullest(words):
-    """The pattern that stands in most of the words, the lowest of several, and the first word that has it; None if all are 0."""
+def fullest(words: list[int]) -> "tuple[int, int] | None":
+    """The pattern that is in most of the words, the lowest of several, and the place of the first word that has it; None if all are 0."""
     counts = {}
     for word in words:
         for it in numbers_in(word):
@@ -87,13 +88,13 @@ def fullest(words):
     return pattern, next(at for at, word in enumerate(words) if word >> pattern & 1)
 
 
-def agreeing(case, number, words):
-    """At how many of some observed bits the chip answered as a number."""
+def agreeing(case: Case, number: int, words: list[int]) -> int:
+    """At how many of these observed bits the chip answered as a number."""
     return sum(ones_in(~(word ^ chip) & bits) for word, chip, bits in zip(case.answers(number), case.ones, words))
 
 
-def first_two(case):
-    """Which patterns tell the first two suspects apart, and how the chip answered there."""
+def first_two(case: Case) -> Step:
+    """Which patterns distinguish the first two suspects, and how the chip answered there."""
     one, other = (it.number for it in case.suspects[:2])
     words = differ(case, one, other)
     seen = [word & it for word, it in zip(words, case.seen)]
@@ -114,8 +115,8 @@ def first_two(case):
     return Step(said, pattern)
 
 
-def further(case, one, other, said):
-    """The pattern of the result that tells two suspects apart, if no vector of the list that was applied does."""
+def further(case: Case, one: int, other: int, said: list[str]) -> Step:
+    """The pattern of the result that distinguishes two suspects, if no vector of the applied list does."""
     answers = [bench.answers(case.netlist, case.result.patterns, case.names[it]) for it in (one, other)]
     found = fullest([a ^ b for a, b in zip(*answers)])
     case.agree(found is not None, "the classes of the suspects")
@@ -125,8 +126,8 @@ def further(case, one, other, said):
     return Step([*said, tells, f"At {where} the first suspect predicts {bits[0]}, the second {bits[1]}."], pattern, True)
 
 
-def in_the_lab(case, first):
-    """What the lab does next, if the log has all that the patterns can tell."""
+def in_the_lab(case: Case, first: Score) -> list[str]:
+    """What the lab does next, if the log has all that the patterns can show."""
     members = case.members[first.number]
     aborted = [it for it in members if case.result.evidence.get(it) == "O"]
     if case.perfect(first):
@@ -144,8 +145,8 @@ def in_the_lab(case, first):
     return ["Repeat the test at another voltage and speed: a defect that shows now and then changes with them, a stuck net doesn't."]
 
 
-def shorted(case):
-    """What the lab does if a bridge is the verdict, and the pattern that tells the first two bridges apart, if the log lacks one."""
+def shorted(case: Case) -> Step:
+    """What the lab does if a bridge is the verdict, and the pattern that distinguishes the first two bridges, if the log lacks one."""
     said = [layout(case)]
     if len(case.exact) == 1:
         return Step(said)
@@ -160,7 +161,7 @@ def shorted(case):
     return Step(said + [f"There the first bridge predicts {bits[0]}, the second {bits[1]}."], pattern)
 
 
-def next_step(case, doubt):
+def next_step(case: Case, doubt: "Doubt | None") -> Step:
     """What to do next; a scan chain that looks broken comes first."""
     step = of_log(case, doubt)
     if dead(case):
@@ -169,7 +170,7 @@ def next_step(case, doubt):
     return step
 
 
-def of_log(case, doubt):
+def of_log(case: Case, doubt: "Doubt | None") -> Step:
     """What to do next if the scan chain is right."""
     if doubt:
         check = "compare the tester's list of patterns, its pin order and its levels with the result"

@@ -1,11 +1,12 @@
-"""What a report says of a log in sentences. All are plain text."""
+"""What a report says about a log in sentences. All are plain text."""
 
-from typing import NamedTuple
+from typing import Iterator, NamedTuple
 
 import report_bridges as bridges
-from report_case import ones_in
+from report_case import Case, Score, ones_in
 from report_chain import dead, heading
 from report_place import in_counts, in_full, in_short
+from report_wrong_log import Doubt, Try
 
 LOOKS = "This looks like a log of other patterns, or in another order or polarity"
 UNFITTING = (
@@ -13,50 +14,50 @@ UNFITTING = (
     "another result in the folder."
 )
 NEITHER = "No single stuck-at fault and no bridge fits"
-FEW = 5  # of so many observed bits at most one fails: then a suspect may be near what is wrong with the chip
+FEW = 5  # a suspect may be near what is wrong with the chip if at most one in FEW observed bits fails
 FAILING_ONLY = "The log has no passing pattern, so no fault can be ruled out because it would fail more patterns."
 
-# The kinds of chips. By stuck-at faults alone a chip is of one of the first five.
+# The kinds of chips. By stuck-at faults alone a chip has one of the first five.
 SINGLE, NOW_AND_THEN, SEVERAL, PARTLY, UNEXPLAINED = "single", "now and then", "several", "partly", "unexplained"
 BRIDGE, PASSES, EMPTY, SCAN_CHAIN, WRONG_LOG = "bridge", "passes", "empty", "scan chain", "wrong log"
 
 
 class Verdict(NamedTuple):
-    """What a log comes to: a heading, sentences that say more, and the kind of the chip."""
+    """The verdict on a log: a heading, sentences that say more, and the kind of the chip."""
 
     heading: str
     more: list
     kind: str
 
-    def line(self):
-        """The whole on one line."""
+    def line(self) -> str:
+        """The whole verdict on one line."""
         return " ".join([f"{self.heading}.", *self.more])
 
 
-def count(number, one, many=None):
+def count(number: int, one: str, many: "str | None" = None) -> str:
     """A number with the word that goes with it."""
     return f"{number:,} {one if number == 1 else many or one + 's'}"
 
 
-def share(part, whole):
+def share(part: int, whole: int) -> str:
     """A share in percent, never rounded up."""
     hundredths = 10_000 * part // whole if whole else 10_000
     return f"{hundredths // 100}.{hundredths % 100:02d}\u00a0%"
 
 
-def capital(text):
-    """A text with a capital at its front."""
+def capital(text: str) -> str:
+    """A text with a capital at its beginning."""
     return text[:1].upper() + text[1:]
 
 
-def verdict(case, doubt):
-    """What the log comes to; a scan chain that looks broken comes first."""
+def verdict(case: Case, doubt: "Doubt | None") -> Verdict:
+    """The verdict on the log; a scan chain that looks broken comes first."""
     said, broken = of_log(case, doubt), dead(case)
     return Verdict(heading(broken), [f"{said.heading}.", *said.more], SCAN_CHAIN) if broken else said
 
 
-def of_log(case, doubt):
-    """What the log comes to if the scan chain is right."""
+def of_log(case: Case, doubt: "Doubt | None") -> Verdict:
+    """The verdict on the log if the scan chain is right."""
     if not any(case.seen):
         lacks = "has no observed bit" if case.logged_count else "is empty"
         return Verdict(f"The log {lacks}, so it says nothing about the chip", [], EMPTY)
@@ -70,16 +71,16 @@ def of_log(case, doubt):
     return said._replace(more=said.more + [FAILING_ONLY]) if case.failing_only() and FAILING_ONLY not in said.more else said
 
 
-def by_stuck_at(case):
-    """What a log with failing patterns comes to by stuck-at faults alone."""
+def by_stuck_at(case: Case) -> Verdict:
+    """The verdict on a log with failing patterns, by stuck-at faults alone."""
     if not case.suspects:
         check = ["Check that the log is of this circuit and of these patterns."]
         return Verdict("No stuck-at fault predicts any of the failing bits", check, UNEXPLAINED)
     return explained(case) if case.suspects[0].explained == case.failing_count else uneven(case)
 
 
-def good(case):
-    """Where nothing fails."""
+def good(case: Case) -> Verdict:
+    """The verdict if nothing fails."""
     unlogged, unseen = len(case.patterns) - case.logged_count, len(case.seen) * case.logged_count - case.seen_bits
     lacks = [count(unlogged, "pattern")] if unlogged else []
     lacks += [count(unseen, "bit of these", "bits of these")] if unseen else []
@@ -88,8 +89,8 @@ def good(case):
     return Verdict(f"No fault is suspect: {passed}", more, PASSES)
 
 
-def doubted(case, doubt):
-    """Where the log looks like one of other patterns."""
+def doubted(case: Case, doubt: Doubt) -> Verdict:
+    """The verdict if the log looks like one of other patterns, or in another order or polarity."""
     fails = f"{case.failing_count:,} of {count(case.logged_count, 'pattern')} fail, at {share(case.wrong_bits, case.seen_bits)} of the observed bits."
     more = [fails]
     more.append(fitting(doubt.best) if doubt.best else UNFITTING)
@@ -104,7 +105,7 @@ def doubted(case, doubt):
     return Verdict(LOOKS, more, WRONG_LOG)
 
 
-def fitting(best):
+def fitting(best: Try) -> str:
     """Which change fits a log, in a sentence."""
     it = f"With {best.change} it fits: "
     if not best.failing:
@@ -113,15 +114,15 @@ def fitting(best):
     return it + (f", and one class of faults explains {best.explained:,} of them." if best.explained is not None else ".")
 
 
-def shorted(case):
-    """Where a bridge predicts every observed bit, and no class does."""
+def shorted(case: Case) -> Verdict:
+    """The verdict if a bridge predicts every observed bit, and no class does."""
     first = capital(bridges.sentence(case.exact[0]))
     more = ["It predicts every observed bit, and no single stuck-at fault does."] + bridges.alike(case)
     return Verdict(first + (", or another bridge that answers alike" if case.exact_count > 1 else ""), more, BRIDGE)
 
 
-def explained(case):
-    """Where the first suspect explains each failing pattern."""
+def explained(case: Case) -> Verdict:
+    """The verdict if the first suspect explains each failing pattern."""
     first, failing = case.suspects[0], count(case.failing_count, "failing pattern")
     perfect = [it for it in case.suspects if case.perfect(it)]
     if case.failing_only():
@@ -138,16 +139,16 @@ def explained(case):
     return Verdict(f"{NEITHER}: a defect that shows now and then", more + bridges.nearest(case, passed), NOW_AND_THEN)
 
 
-def several(case, perfect):
-    """Where the log fits several classes."""
+def several(case: Case, perfect: list[Score]) -> Verdict:
+    """The verdict if several classes fit the log."""
     first = in_short(case, perfect[0].number)
     many = f"{len(perfect)} classes" + (" or more" if len(perfect) == len(case.suspects) >= 20 else "")
     fit = f"{many} of stuck-at faults fit, and the log can't tell them apart"
     return Verdict(fit + bridges.as_well(case), [f"The first is {first}."], SINGLE)
 
 
-def failing_only(case, perfect):
-    """Where the log has failing patterns only, and some class explains them all."""
+def failing_only(case: Case, perfect: list[Score]) -> Verdict:
+    """The verdict if the log has only failing patterns, and some class explains them all."""
     number, failing = case.suspects[0].number, count(case.failing_count, "failing pattern")
     said = f"{capital(in_short(case, number))} explains each of the {failing}"
     others = f", and so {'does' if len(perfect) == 2 else 'do'} {count(len(perfect) - 1, 'other class', 'other classes')}" if len(perfect) > 1 else ""
@@ -156,14 +157,14 @@ def failing_only(case, perfect):
     return Verdict(f"A stuck-at fault{', a bridge' if case.exact else ''} or a defect that shows now and then", more, SINGLE)
 
 
-def unlogged(case, number):
-    """What the log lacks of a fault that fits."""
+def unlogged(case: Case, number: int) -> list[str]:
+    """Which bits the log lacks that a fault that fits would fail, in a sentence."""
     lacks = ones_in(case.unlogged[number])
     return [f"The log lacks bits of {count(lacks, 'pattern')} that this fault would fail."] if lacks else []
 
 
-def also(case):
-    """For each number of the cover the listed ones, best first, that explain all failing patterns that are new with it."""
+def also(case: Case) -> Iterator[tuple[int, list[int]]]:
+    """For each number of the cover the listed numbers, best first, that explain all failing patterns that are new with it."""
     left = case.failing
     for number, _ in case.cover:
         new = case.explained[number] & left
@@ -171,13 +172,13 @@ def also(case):
         yield number, [it for it, word in case.explained.items() if not new & ~word]
 
 
-def nearest_cover(case):
-    """The cover, with the best suspect in the place of each number that explains no more, and the counts."""
+def nearest_cover(case: Case) -> list[tuple[int, int]]:
+    """The cover with its counts, with the best suspect in place of each number that explains no more."""
     return [(others[0], explained) for (_, others), (_, explained) in zip(also(case), case.cover)]
 
 
-def uneven(case):
-    """Where no class explains each failing pattern."""
+def uneven(case: Case) -> Verdict:
+    """The verdict if no class explains each failing pattern."""
     first, failing = case.suspects[0], count(case.failing_count, "failing pattern")
     if not case.cover:
         bits = f"{first.hit:,} of {count(case.wrong_bits, 'failing bit')}, and would fail {first.false:,} that passed"

@@ -1,22 +1,22 @@
-"""Whether a log looks like one of other patterns, or of another order or polarity, and which change of it fits."""
+"""Finds whether a log looks like one of other patterns, or in another order or polarity, and which change of it fits."""
 
 import itertools
 import os
-from typing import NamedTuple
+from typing import Iterator, NamedTuple
 
 import bench
-from report_case import ones_in, suspects_in, union
+from report_case import Case, ones_in, suspects_in, union
 from report_runs import Ended
 
-FOLDER = 50  # results of the folder that are looked at
+FOLDER = 50  # results of the folder that are tried
 LARGEST = 1 << 28  # bytes of one that is read
-ENOUGH = 10  # failing patterns without a passing one that say something of the others
+ENOUGH = 10  # failing patterns without a passing one that say something about the others
 SHIFTS = {0: None, -1: "patterns counted from 1", 1: "patterns counted one too low"}
 
 
 class Try(NamedTuple):
-    """A change of the log and what it comes to: how many patterns fail of those logged, how many bits of those observed, and how many failing
-    patterns one class explains, where `suspects` was asked. The result is the one whose patterns are meant."""
+    """A change of the log and its counts: how many of the logged patterns fail, how many of the observed bits, and how many failing patterns one
+    class explains, if `suspects` was run. `result` is the result that has the patterns."""
 
     change: str
     result: str
@@ -38,25 +38,25 @@ class Doubt(NamedTuple):
     cells: int
 
 
-def large(part, whole):
-    """Whether more than a tenth."""
+def large(part: int, whole: int) -> bool:
+    """Whether the part is more than a tenth of the whole."""
     return part * 10 > whole
 
 
-def tried(change, result, good, log, logged):
-    """What a log comes to against good answers."""
+def tried(change: str, result: str, good: list[int], log: tuple[list[int], list[int]], logged: int) -> Try:
+    """A change of the log, compared with good answers."""
     ones, zeros = log
     seen = [one | zero for one, zero in zip(ones, zeros)]
     wrong = [(one ^ word) & it for one, word, it in zip(ones, good, seen)]
     return Try(change, result, log, ones_in(union(wrong)), ones_in(logged), sum(map(ones_in, wrong)), sum(map(ones_in, seen)))
 
 
-def moved(word, by, full):
-    """The word of patterns whose numbers are higher by so many."""
+def moved(word: int, by: int, full: int) -> int:
+    """A word of patterns with each number raised by `by`."""
     return word << by & full if by > 0 else word >> -by
 
 
-def changes(case):
+def changes(case: Case) -> Iterator[Try]:
     """The log with its numbers shifted, its positions reversed, its bits inverted, or several of these."""
     for by, back, turned in itertools.product(SHIFTS, (False, True), (False, True)):
         said = [SHIFTS[by], "positions in reverse order" if back else None, "bits inverted" if turned else None]
@@ -68,8 +68,8 @@ def changes(case):
             yield tried(" and ".join(filter(None, said)), case.read["result"], case.good, log, moved(case.logged, by, case.full))
 
 
-def shifted_cells(case):
-    """The log with the bits of the scan cells one place further back or front."""
+def shifted_cells(case: Case) -> Iterator[Try]:
+    """The log with the bits of the scan cells one place later or earlier."""
     cells = [at for at, (kind, _) in enumerate(case.netlist.positions) if kind == "cell"]
     for by, said in ((1, "late"), (-1, "early")) if len(cells) > 1 else ():
         words = [[*it] for it in (case.ones, case.zeros)]
@@ -80,8 +80,8 @@ def shifted_cells(case):
         yield tried(change, case.read["result"], case.good, tuple(words), case.logged)
 
 
-def patterns_of(name):
-    """The patterns of a file if it is a result, else None. Lines of other kinds may stand between them."""
+def patterns_of(name: str) -> "list[str] | None":
+    """The patterns of a file if it is a result, else None. Lines of other kinds may be between them."""
     found = []
     with open(name, "rb") as file:
         if file.read(8) != b"diatest ":
@@ -96,7 +96,7 @@ def patterns_of(name):
     return None
 
 
-def neighbours(case):
+def neighbours(case: Case) -> Iterator[str]:
     """The other files of the result's folder, and of the log's."""
     folders = dict.fromkeys(os.path.dirname(case.files[it]) or "." for it in ("result", "log"))
     for folder in folders:
@@ -106,7 +106,7 @@ def neighbours(case):
                 yield whole
 
 
-def results_beside(case):
+def results_beside(case: Case) -> Iterator[tuple[str, list[str]]]:
     """The names and patterns of other results for this circuit in those folders."""
     for name in neighbours(case):
         try:
@@ -117,7 +117,7 @@ def results_beside(case):
             yield name, patterns
 
 
-def other_results(case):
+def other_results(case: Case) -> tuple[list[Try], list[str]]:
     """The log with the patterns of other results for this circuit, and the names of those that have fewer patterns than the log."""
     found, short, last = [], [], case.logged.bit_length()
     for name, patterns in itertools.islice(results_beside(case), FOLDER):
@@ -129,7 +129,7 @@ def other_results(case):
     return found, short
 
 
-def lines_of(log):
+def lines_of(log: tuple[list[int], list[int]]) -> Iterator[str]:
     """The lines of a changed log."""
     ones, zeros = log
     seen = union(ones) | union(zeros)
@@ -139,7 +139,7 @@ def lines_of(log):
             yield f"{pattern} {''.join(bits)}\n"
 
 
-def asked(case, it):
+def asked(case: Case, it: Try) -> Try:
     """A change with what `suspects` says of it."""
     name = os.path.join(case.runs.folder, "changed.log")
     with open(name, "w", encoding="ascii") as file:
@@ -154,8 +154,8 @@ def asked(case, it):
     return it._replace(explained=scores[0].explained if scores else 0)
 
 
-def never_change(case):
-    """How many scan cells show one bit alone though a good chip shows both, and how many cells there are."""
+def never_change(case: Case) -> tuple[int, int]:
+    """How many scan cells show only one bit though a good chip shows both, and how many cells there are."""
     cells = still = 0
     for (kind, _), one, zero, good in zip(case.netlist.positions, case.ones, case.zeros, case.good):
         seen = one | zero
@@ -164,8 +164,9 @@ def never_change(case):
     return still, cells
 
 
-def fitting(case, tries):
-    """The change with the fewest failing bits, if they are few or one class explains most of the failing patterns."""
+def fitting(case: Case, tries: list[Try]) -> "tuple[Try | None, Try | None]":
+    """The change with the fewest failing bits. Also the same with what `suspects` says, if few bits fail or one class explains most of the failing
+    patterns."""
     likely = [it for it in tries if it.wrong * 2 <= case.wrong_bits]
     best = min(likely, key=lambda it: it.wrong / (it.seen or 1), default=None)
     if not best:
@@ -175,15 +176,16 @@ def fitting(case, tries):
     return best, answer if few or (answer.explained or 0) * 2 > answer.failing else None
 
 
-def applied(case):
-    """How many patterns were applied: those logged, or those from the first to the last of a long list of failing ones."""
+def applied(case: Case) -> int:
+    """How many patterns were applied: those logged; or if only failing ones are logged, those from the first to the last of a long list, and all
+    for a short one."""
     if not case.failing_only():
         return case.logged_count
     first = (case.logged & -case.logged).bit_length()
     return case.logged.bit_length() - first + 1 if case.failing_count >= ENOUGH else len(case.patterns)
 
 
-def doubt(case):
+def doubt(case: Case) -> "Doubt | None":
     """Why the log is doubted, if it is: no class and no bridge explains it, many bits fail, and either nearly every pattern does or a change fits."""
     most = max((it.explained for it in case.suspects), default=0)
     if not case.failing or case.exact or most == case.failing_count or not large(case.wrong_bits, case.seen_bits):

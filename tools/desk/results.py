@@ -1,4 +1,4 @@
-"""Results and names of faults, as the helpers read them. Nothing is checked: the program's `check` does that."""
+"""Reads results and names of faults for the helpers. Nothing is checked: the program's `check` does that."""
 
 from __future__ import annotations
 
@@ -8,7 +8,7 @@ import subprocess
 from collections.abc import Iterable, Iterator
 
 TOP = os.path.dirname(os.path.dirname(os.path.dirname(os.path.realpath(__file__))))
-LONGEST = 1 << 24  # bytes of a line that are read; those behind are passed over
+LONGEST = 1 << 24  # bytes of a line that are read; the rest is skipped
 MARKS = {
     "C": "equal, as the gates alone show (C)",
     "T": "equal, as a tree of cubes shows (T)",
@@ -18,7 +18,7 @@ MARKS = {
 
 
 def lines(name: str) -> Iterator[list[str]]:
-    """The fields of each line of a result; of a long one those that stand first."""
+    """The fields of each line of a result; of a long line the first ones."""
     with open(name, "rb") as file:
         while line := file.readline(LONGEST):
             yield line.decode("latin-1").split(maxsplit=4)
@@ -27,8 +27,8 @@ def lines(name: str) -> Iterator[list[str]]:
 
 
 class Result:
-    """How many sources a result has, its patterns, of each class but the first the class that it was a part of and the pattern that split it
-    off, the class and the mark of each number, and the last evidence of each member."""
+    """The number of sources of a result, its patterns, and for each class except the first the class that it was a part of and the pattern that
+    split it off (`births`). Also the class and the mark of each number, and the last evidence of each member."""
 
     def __init__(self, name: str) -> None:
         self.patterns, self.births, self.classes, self.marks, self.evidence = [], {}, {}, {}, {}
@@ -80,7 +80,7 @@ def vectors_of(name: str) -> list[str]:
 
 
 def names_of(netlist: str, numbers: Iterable[int]) -> dict[int, tuple[int, list[str]]]:
-    """The same, from the list of faults that the program prints of a netlist."""
+    """The same, from the list of faults that the program prints for a netlist."""
     with subprocess.Popen([f"{TOP}/diatest", "faults", netlist], stdout=subprocess.PIPE, text=True, encoding="latin-1") as listing:
         found = names_in(listing.stdout, numbers)
     if listing.returncode:

@@ -1,10 +1,10 @@
-"""run.py PROGRAM WORD..: runs DIATEST with the words, and tells on standard error what it leaves open.
+"""run.py PROGRAM WORD..: runs DIATEST with the words, and explains on standard error what its output leaves open.
 
-The status is the program's, and what it prints is handed on byte for byte. Its files are written beside their names, and get these when the
-status is 0. Where standard output can't be written, the program's next write fails, or its last ones are known to have failed: the status is 8
-in either case, as without this script. A run that would write over a file that it reads isn't begun, unless --force is among the words."""
+The status is the program's, and what it prints is passed on byte for byte. Its files are written beside their names, and renamed when the
+status is 0. If standard output can't be written, the program's next write fails, or its last writes are known to have failed. In both cases
+the status is 8, as without this script. A run that would write over a file that it reads isn't started, unless --force is among the words."""
 
-import quiet  # noqa: F401, I001 (the first, so that an interrupt this early leaves no trace of Python)
+import quiet  # noqa: F401, I001 (the first, so that an interrupt this early prints no traceback)
 
 import os
 import select
@@ -13,14 +13,14 @@ import subprocess
 import sys
 
 from failures import unread, unwritten, why
-from outputs import FORCE, Outputs, Refused, refuse_another, refuse_same
+from outputs import FORCE, Output, Outputs, Refused, refuse_another, refuse_same
 from progress import Progress, stamp
 from refusals import PARTIAL, WANTED, explain, kind_of
 from telling import named, say, tell
 from usage import COMMANDS, files_of, places_of, read_by, usage
 from words import wrong
 
-KEPT = 1 << 16  # bytes of the console that are kept, of which a refusal is the first line
+KEPT = 1 << 16  # bytes of the console that are kept; a refusal is the first line
 REFUSED = (3, 4, 5, 6, 10)
 STOPS = (signal.SIGHUP, signal.SIGINT, signal.SIGQUIT, signal.SIGTERM)
 RESULTS = ("gen", "grade", "topup", "synth")
@@ -28,12 +28,12 @@ ENDED = {**dict.fromkeys(RESULTS, "RESULT"), "compact": "NEW", "adapt": "PLAN"} 
 
 
 class Console:
-    """Hands on what the program prints, and keeps the beginning."""
+    """Passes on what the program prints, and keeps the beginning."""
 
-    def __init__(self):
+    def __init__(self) -> None:
         self.kept, self.error = b"", None
 
-    def hand_on(self, piece):
+    def hand_on(self, piece: bytes) -> None:
         self.kept += piece[: KEPT - len(self.kept)]
         while piece and not self.error:
             try:
@@ -47,7 +47,7 @@ class Console:
 class Run:
     """A run of the program."""
 
-    def __init__(self, program, words):
+    def __init__(self, program: str, words: list[str]) -> None:
         self.child, self.signal, self.console = None, None, Console()
         self.handle(self.pass_on)
         force, words = take_force(words)
@@ -63,8 +63,8 @@ class Run:
         shown = self.command in ("gen", "topup") and made and os.isatty(2)
         self.progress = Progress(self.outputs.by_label["RESULT"].written) if shown else None
 
-    def begun(self, made, force):
-        """The files that the run writes, unless that would destroy one."""
+    def begun(self, made: list[str], force: bool) -> Outputs:
+        """The files that the run writes. Refuses a run that would destroy one."""
         read = [self.files[it] for it in read_by(self.command, self.files)] if made else []
         if not force:
             refuse_same(read, [self.files[it] for it in made], FORCE)
@@ -76,31 +76,31 @@ class Run:
             raise Refused(f"{unsafe}; with {FORCE} it is written in its place")
         return outputs
 
-    def written_as(self, label):
-        """What the run writes under a name of the usage."""
+    def written_as(self, label: str) -> str:
+        """The kind of file that the run writes under a name of the usage."""
         written = {"convert": "dictionary", "compact": "result"}[self.command] if label == "NEW" else label.lower()
         return WANTED[written]
 
-    def handle(self, handler):
-        """Says what is done at a signal that stops a run, as long as it isn't ignored."""
+    def handle(self, handler: object) -> None:
+        """Sets what is done at each signal that stops a run, unless the signal is ignored."""
         for number in STOPS:
             if signal.getsignal(number) != signal.SIG_IGN:
                 signal.signal(number, handler)
 
-    def pass_on(self, number, _frame):
-        """Tells the program of a signal that this script got."""
+    def pass_on(self, number: int, _frame: object) -> None:
+        """Passes a signal on to the program."""
         self.signal = number
         if self.child:
             self.child.send_signal(number)
 
-    def start(self):
-        """Starts the program, over a pipe in the place of standard output. Other open descriptors are its own, too."""
+    def start(self) -> None:
+        """Starts the program with a pipe in place of standard output. It has this script's other open descriptors too."""
         self.child = subprocess.Popen(self.words, stdout=subprocess.PIPE, bufsize=0, close_fds=False)
         if self.signal:
             self.child.send_signal(self.signal)
 
-    def follow(self):
-        """Hands on what the program prints until it ends, and shows how far it is."""
+    def follow(self) -> None:
+        """Passes on what the program prints until it ends, and shows how far it is."""
         pipe = self.child.stdout.fileno()
         while not self.console.error:
             if not select.select([pipe], [], [], 1 if self.progress else None)[0]:
@@ -115,12 +115,12 @@ class Run:
         self.child.stdout.close()
         self.child.wait()
 
-    def status(self):
-        """The status that the program has, where it gives one."""
+    def status(self) -> int:
+        """The status of the run: 8 if what the program printed couldn't be passed on and no signal ended it, else the program's."""
         return 8 if self.console.error and self.child.returncode >= 0 else self.child.returncode
 
-    def explain(self):
-        """Tells what the program leaves open."""
+    def explain(self) -> None:
+        """Explains what the program's output leaves open."""
         status = self.status()
         if status < 0:
             self.tell_killed(-status)
@@ -134,7 +134,7 @@ class Run:
             return
         elif status in REFUSED:
             self.outputs.drop()
-            self.handle(signal.SIG_DFL)  # to find the place may take a while
+            self.handle(signal.SIG_DFL)  # finding the place may take a while
             say(explain(self.command, self.files, self.console.kept.decode("utf-8", "surrogateescape")))
         elif status in (7, 8):
             self.tell_failed(status)
@@ -143,28 +143,28 @@ class Run:
         elif status == 9:
             tell("there wasn't enough memory")
 
-    def tell_empty(self):
-        """Tells which list or log that was read is empty."""
+    def tell_empty(self) -> None:
+        """Says which list or log that was read is empty."""
         if is_empty(self.files.get("VECTORS", "")):
             tell(f"{named(self.files['VECTORS'])} has no vectors")
         if self.command in PARTIAL and is_empty(self.files["LOG"]):
             tell(f"{named(self.files['LOG'])} is empty, so it says nothing about the chip")
 
-    def tell_failed(self, status):
-        """Tells which file couldn't be read or written, and why."""
+    def tell_failed(self, status: int) -> None:
+        """Says which file couldn't be read or written, and why."""
         tried = read_by(self.command, self.files) if status == 7 else COMMANDS[self.command].made.split()
         causes = filter(None, map(unread if status == 7 else unwritten, (self.files[it] for it in tried)))
         tell(next(causes, f"a {'read' if status == 7 else 'write'} failed, and its cause can't be seen any more"))
 
-    def tell_killed(self, number):
-        """Tells that the program was stopped."""
+    def tell_killed(self, number: int) -> None:
+        """Says that a signal ended the program, unless it is one that stops a run."""
         if self.signal == signal.SIGINT and os.isatty(2):
-            say("\n")  # behind what the terminal shows of the key
+            say("\n")  # after what the terminal shows of the key
         if number not in STOPS:
             tell(f"the program was ended by {signal.Signals(number).name}")
 
-    def finish(self):
-        """Gives the new files their names if the run succeeded; else tells what its files are now. Returns the status."""
+    def finish(self) -> int:
+        """Renames the new files to their names if the run succeeded; else says what its files are now. Returns the status."""
         status = self.status()
         if status == 0:
             told, whole = self.outputs.replace()
@@ -175,8 +175,8 @@ class Run:
             self.tell_left(label, output, status)
         return status
 
-    def tell_left(self, label, output, status):
-        """Tells what a file is now behind a run that failed, and takes away what was written beside it, unless that is whole."""
+    def tell_left(self, label: str, output: Output, status: int) -> None:
+        """Says what a file is now after a run that failed, and removes what was written beside it, unless that is complete."""
         name = named(output.name)
         state = f"{name} is as it was before" if output.older else f"there is no {name} yet"
         if not output.beside:
@@ -190,25 +190,25 @@ class Run:
         if status < 0 or status in (8, 9) and output.older:
             tell(state + self.so_far())
 
-    def so_far(self):
-        """How far a run came that was stopped, where that was counted."""
+    def so_far(self) -> str:
+        """How far a stopped run came, if that was counted."""
         counted = self.progress and self.progress.member is not None
         return f": the run was stopped at fault {self.progress.member} of {self.progress.last}" if counted else ""
 
 
-def is_empty(name):
+def is_empty(name: str) -> bool:
     """Whether a name is that of a plain file without a byte."""
     return os.path.isfile(name) and os.path.getsize(name) == 0
 
 
-def take_force(words):
+def take_force(words: list[str]) -> tuple[bool, list[str]]:
     """Whether --force is among the words, and the words without it."""
     end = words.index("--") if "--" in words else len(words)
     left = [it for at, it in enumerate(words) if at >= end or it != FORCE]
     return len(left) < len(words), left
 
 
-def end(status):
+def end(status: int) -> None:
     """Ends as the program did."""
     if status >= 0:
         sys.exit(status)
@@ -218,7 +218,7 @@ def end(status):
     sys.exit(128 - status)
 
 
-def main():
+def main() -> None:
     try:
         run = Run(sys.argv[1], sys.argv[2:])
     except Refused as error:
@@ -233,7 +233,7 @@ def main():
     run.follow()
     try:
         run.explain()
-    except Exception as error:  # whatever can't be told, the run ends as the program did
+    except Exception as error:  # whatever can't be shown, the run ends as the program did
         tell(f"the cause can't be shown ({error})")
     try:
         status = run.finish()

@@ -1,4 +1,4 @@
-"""What is told on standard error: sentences, and the line of a file with a caret. Of a file no more is held than a piece."""
+"""Writes on standard error: sentences, and the line of a file with a caret. Only a piece of a file is held in memory."""
 
 from __future__ import annotations
 
@@ -7,7 +7,7 @@ import os
 import stat
 
 PIECE = 1 << 20
-BEFORE, BEHIND = 48, 32  # bytes of a line that are shown before and behind the caret
+BEFORE, BEHIND = 48, 32  # bytes of a line that are shown before and after the caret
 
 
 def say(text: str) -> None:
@@ -19,7 +19,7 @@ def say(text: str) -> None:
 
 
 def tell(sentence: str) -> None:
-    """Writes a sentence of the script's on standard error."""
+    """Writes a sentence on standard error, after `diatest:`."""
     say(f"diatest: {sentence}\n")
 
 
@@ -43,7 +43,7 @@ def plain_file(name: str) -> io.BufferedReader | None:
 
 
 def line_start(file: io.BufferedReader, number: int) -> int:
-    """The offset of a line, counted from 1; the file's length where there are fewer."""
+    """The offset of a line, counted from 1; the file's length if there are fewer lines."""
     file.seek(0)
     offset, left = 0, number - 1
     while left and (piece := file.read(PIECE)):

@@ -1,4 +1,4 @@
-"""One chip of a lot: what the page of tools/report says of its log, as an answer that can be kept."""
+"""One chip of a lot: what the page of tools/report says about its log, as an answer that can be kept."""
 
 from __future__ import annotations
 
@@ -16,7 +16,7 @@ from report_wrong_log import Doubt, doubt
 from results import Result, vectors_of
 from volume_lot import FAILED, NO_ANSWER, REFUSED, UNREAD, Lot
 
-STATUSES = {6: REFUSED, 7: UNREAD}  # of a command; what ends otherwise has failed
+STATUSES = {6: REFUSED, 7: UNREAD}  # of a command; one with any other status has failed
 
 
 class Test:
@@ -50,7 +50,7 @@ class Test:
 
 
 class Listing:
-    """The list of faults, which was printed before."""
+    """The list of faults, which is already printed."""
 
     def __init__(self, lines: List[str]):
         self.kept = lines
@@ -65,7 +65,7 @@ class Listing:
 
 
 class LotRuns(Runs):
-    """The commands for a chip of a lot: of the program itself. The faults are listed once."""
+    """The commands for a chip of a lot, run by the program itself. The faults are listed once."""
 
     def __init__(self, test: Test, folder: str):
         super().__init__(folder, "volume")
@@ -87,12 +87,12 @@ class LotCase(Case):
         super().__init__(runs, test.lot.netlist, test.lot.result, log, test.lot.applied)
 
     def read_early(self) -> Result:
-        """The netlist and the result."""
+        """Takes the shared netlist, and returns the shared result."""
         self.netlist = self.test.netlist
         return self.test.result
 
     def simulate(self) -> None:
-        """What a good chip answers."""
+        """Takes what a good chip answers."""
         self.patterns, self.free = self.test.patterns, self.test.free
         self.full = (1 << len(self.patterns)) - 1
         self.good = [self.free[it] for it in self.netlist.shown]
@@ -100,7 +100,7 @@ class LotCase(Case):
 
 def called(case: Case) -> List[List[int]]:
     """The callouts of a chip: those as good as the first suspect if that explains all failing patterns, else a list for each class of the cover,
-    in which the best suspect stands for the number that `cover` chose."""
+    with the best suspect in place of the number that `cover` chose."""
     if not case.suspects:
         return []
     first = case.suspects[0]
@@ -121,7 +121,7 @@ def weights(case: Case, groups: List[List[int]]) -> Dict[str, float]:
 
 
 def of_case(case: LotCase, why_doubted: Optional[Doubt]) -> Dict[str, Any]:
-    """The answer of a chip whose log was accepted."""
+    """The answer for a chip whose log was accepted."""
     groups = called(case) if case.failing and not why_doubted else []
     said, by_faults = verdict(case, why_doubted), by_stuck_at(case).kind if groups else ""
     trusted = groups if said.kind not in (WRONG_LOG, SCAN_CHAIN) or by_faults == SINGLE else []
@@ -147,7 +147,7 @@ def of_case(case: LotCase, why_doubted: Optional[Doubt]) -> Dict[str, Any]:
 
 
 def refusal(lot: Lot, log: str, error: Ended) -> Dict[str, Any]:
-    """The answer of a log at which a command ended: its status, what it printed, and what the script tells of the place."""
+    """The answer for a log for which a command failed: its status, what it printed, and what the script says about the place."""
     with tempfile.TemporaryDirectory(prefix="volume-") as folder, Runs(folder, "volume") as runs:
         run = runs.start("suspects", lot.netlist, lot.result, log, *lot.options())
         run.succeeds()
@@ -157,7 +157,7 @@ def refusal(lot: Lot, log: str, error: Ended) -> Dict[str, Any]:
 
 
 def of_log(test: Test, log: str) -> Dict[str, Any]:
-    """The answer of a log: what its chip is, or why the log is refused."""
+    """The answer for a log: the verdict on its chip, or why the log is refused."""
     try:
         with tempfile.TemporaryDirectory(prefix="volume-") as folder, LotRuns(test, folder) as runs:
             case = LotCase(test, log, runs)

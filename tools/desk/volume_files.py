@@ -12,7 +12,7 @@ from volume_words import Sums
 
 SHARES = ("chips", "weight", "share", "expected", "ratio")
 CHIPS = ("log", "status", "kind", "stuck_at", "failing", "logged", "explained", "called", "nets", "exact_bridges", "bridge", "headline", "said")
-INSIDE = ("of", "sum", "log")  # of an answer: what only its file needs, and what stands first
+INSIDE = ("of", "sum", "log")  # of an answer: what only its file needs, and what comes first
 
 
 def table(heads: Iterable[str], rows: Iterable[Iterable[Any]]) -> str:
@@ -30,7 +30,7 @@ def number(it: float) -> str:
 
 
 def shares(it: Row) -> List[str]:
-    """The fields of a row of a Pareto behind its names."""
+    """The fields of a row of a Pareto after its names."""
     return [str(it.chips), f"{it.weight:.3f}", number(it.share), number(it.expected), f"{it.ratio:.2f}"]
 
 
@@ -45,7 +45,7 @@ def bridges_csv(sums: Sums) -> str:
 
 
 def chip_fields(answer: Dict[str, Any]) -> Dict[str, Any]:
-    """The fields of a chip. Callouts that are as good stand with | between them; those of a cover with a space."""
+    """The fields of a chip. Equally good callouts have | between them; those of a cover have a space."""
     found = {name: answer.get(name, "") for name in CHIPS}
     found["called"] = " ".join("|".join(map(str, group)) for group in answer.get("called", []))
     found["nets"] = " ".join(answer.get("nets", {}))
@@ -64,7 +64,7 @@ def as_rows(rows: List[Row]) -> List[Dict[str, Any]]:
 
 
 def volume_json(lot: Lot, sums: Sums) -> str:
-    """All of it."""
+    """The whole lot as JSON."""
     chips = [{"log": it["log"], **{name: value for name, value in it.items() if name not in INSIDE}} for it in sums.answers]
     found = {
         **lot.files(),

@@ -2,6 +2,7 @@
 
 from __future__ import annotations
 
+import contextlib
 import os
 import re
 import shlex
@@ -18,17 +19,17 @@ from volume_lot import JOBS, LOT
 WORKER = os.path.join(os.path.dirname(os.path.realpath(__file__)), "volume_worker.py")
 LARGEST = 16  # logs of a batch: what they share is read once
 BATCHES = 4  # that each processor gets at least, so that all end at about the same time
-RETRIES = 3  # hosts on which a job is tried that fails
+RETRIES = 3  # hosts on which a failing job is tried
 SSH = "ssh -o BatchMode=yes -o ConnectTimeout=10"  # no question for a password, and no long wait for a host that is down
 OK, LACKS = "all is there", "this lacks: "  # what the worker says on a host
 PART = re.compile(r" (\d+) (\d+)$")  # the end of a job's command
-TOLD = re.compile(r"(\d+)\t(.*\S)")  # a line that a job told, behind its number
+TOLD = re.compile(r"(\d+)\t(.*\S)")  # a line of a job's standard error, after its number
 NONE = "GNU parallel isn't installed (Debian's package parallel)"
 OTHER = "{} isn't GNU parallel: moreutils has a program of the same name, and Debian's package parallel has the right one"
 
 
 class Plan(NamedTuple):
-    """How jobs are run: GNU parallel if it is there, how many jobs at once, and the hosts as --sshlogin takes them."""
+    """How jobs are run: by GNU parallel, if it is there; how many at once; and on which hosts, as --sshlogin takes them."""
 
     parallel: Optional[str]
     jobs: Optional[int]
@@ -36,7 +37,7 @@ class Plan(NamedTuple):
 
 
 class Ended(NamedTuple):
-    """How a job ended: its status, the host if there are several, and what was told."""
+    """How a job ended: its status, the host if there are several, and what it wrote on standard error."""
 
     status: int
     host: str
@@ -44,7 +45,7 @@ class Ended(NamedTuple):
 
 
 class Host(NamedTuple):
-    """What is wrong with a host, if something is, and whether that is what it lacks: else it doesn't answer."""
+    """What is wrong with a host, if something is. `lacks` says whether the host lacks something; else it doesn't answer."""
 
     said: str
     lacks: bool
@@ -68,7 +69,7 @@ def words_of(*words: str) -> str:
 
 
 def batches(count: int, largest: int) -> List[Tuple[int, int]]:
-    """The first and the last place of each batch: places from 0 on, the last one not counted."""
+    """The first place of each batch and the place after its last one. The first batch begins at place 0."""
     each = max(1, min(largest, -(-count // (BATCHES * (os.cpu_count() or 1)))))
     return [(first, min(first + each, count)) for first in range(0, count, each)]
 
@@ -85,7 +86,7 @@ def environment() -> Dict[str, str]:
 
 
 def check_host(plan: Plan, host: str, folder: str) -> Host:
-    """Asks a host whether all is there that a job needs."""
+    """Asks a host whether it has all that a job needs."""
     words = [str(plan.parallel), "--nonall", *over([host]), words_of("check", folder, checksum(os.path.join(folder, LOT)))]
     ran = subprocess.run(words, stdin=subprocess.DEVNULL, capture_output=True, text=True, errors="replace", env=environment())
     printed, told = ran.stdout.splitlines(), [it for it in ran.stderr.splitlines() if it.strip()]
@@ -120,7 +121,8 @@ class Jobs:
         words = ["python3", "-B", WORKER, "do", self.folder, *map(str, part)]
         with subprocess.Popen(words, stdin=subprocess.DEVNULL, stderr=subprocess.PIPE, text=True, errors="replace") as child:
             told = self.follow(child, total)
-        return Ended(child.returncode, "", told)
+        status = child.returncode if child.returncode >= 0 else 128 - child.returncode
+        return Ended(status, "", (told.strip().splitlines() or [""])[-1])
 
     def by_parallel(self, parts: List[Tuple[int, int]], total: int) -> List[Ended]:
         """Runs all jobs by GNU parallel."""
@@ -137,7 +139,7 @@ class Jobs:
         return [found.get(it, Ended(child.returncode, "", told.strip().partition("\n")[0])) for it in parts]
 
     def follow(self, child: subprocess.Popen, total: int) -> str:
-        """Waits for a child, and shows how far the lot is. Returns what it told. An interrupt stops the child's jobs, too."""
+        """Waits for a child, and shows how far the lot is. Returns the child's standard error. An interrupt stops the child's jobs too."""
         try:
             while True:
                 try:
@@ -152,30 +154,29 @@ class Jobs:
             raise
 
     def show(self, total: int) -> None:
-        """Shows how far the lot is, on a line of the terminal that is written over."""
+        """Shows how far the lot is, on one line of the terminal."""
         if os.isatty(2):
             text = f"{self.answers() - self.before:,} of {total:,} logs, {int(time.monotonic() - self.began)} s"
             say(f"\r{text:{self.shown}}\r")
             self.shown = len(text)
 
     def clear(self) -> None:
-        """Takes the line off the terminal."""
+        """Clears the line of the terminal."""
         if self.shown:
             say(f"\r{'':{self.shown}}\r")
         self.shown = 0
 
 
 def stop(child: subprocess.Popen) -> None:
-    """Stops a child; GNU parallel stops its jobs at the second signal."""
-    for _ in range(2):
-        if child.poll() is None:
-            child.send_signal(signal.SIGTERM)
-            time.sleep(0.2)
-    child.wait()
+    """Stops a child. GNU parallel ignores the signal until its first job has begun, so it is sent until the child ends."""
+    while child.poll() is None:
+        child.send_signal(signal.SIGTERM)
+        with contextlib.suppress(subprocess.TimeoutExpired):
+            child.wait(timeout=0.5)
 
 
 def logged(name: str, told: str) -> Dict[Tuple[int, int], Ended]:
-    """How jobs ended, by their parts: from the log that GNU parallel writes, and from what they told, of which the last line counts."""
+    """How jobs ended, by their parts: from the log that GNU parallel writes, and from the last line that each job wrote on standard error."""
     last = {number: line for number, line in TOLD.findall(told)}
     found = {}
     try:

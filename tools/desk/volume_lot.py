@@ -17,15 +17,15 @@ from outputs import put
 from telling import named
 
 HERE = os.path.dirname(os.path.realpath(__file__))
-LOT, JOBS = "lot.json", "jobs"
+LOT, JOBS, LOCK = "lot.json", "jobs", "lock"
 LONGEST = 150  # bytes of a log's name that are kept in the name of its answer
-KEPT = (0, 6)  # statuses that come again for the same files: nothing failed, or the log is refused
+KEPT = (0, 6)  # statuses that the same files give again: nothing failed, or the log is refused
 NO_ANSWER = 1  # the status of a log without an answer
-REFUSED, UNREAD, FAILED = "refused", "unread", "failed"  # kinds of logs that say nothing of a chip: the last has no answer yet
+REFUSED, UNREAD, FAILED = "refused", "unread", "failed"  # kinds of logs that say nothing about a chip: the last has no answer yet
 
 
 class Lot(NamedTuple):
-    """The words of a lot, as the user wrote them, and the checksums of what an answer is made from besides its log."""
+    """The words of a lot, as the user wrote them, and the checksums of all that an answer is made from, except its log."""
 
     folder: str
     netlist: str
@@ -86,7 +86,7 @@ def load(folder: str) -> Tuple[Lot, List[str]]:
 
 
 def answer_name(folder: str, log: str) -> str:
-    """The name of a log's answer, which is another one for each word."""
+    """The name of the file with a log's answer. Different words for logs have different ones."""
     name = urllib.parse.quote(os.fsencode(log), safe="")
     if len(name) > LONGEST:
         name = f"{hashlib.sha256(os.fsencode(log)).hexdigest()[:16]}~{name[-LONGEST:]}"
@@ -94,7 +94,7 @@ def answer_name(folder: str, log: str) -> str:
 
 
 def read_answer(name: str) -> Dict[str, Any]:
-    """The answer under a name; an empty one if there is none, or if it isn't whole."""
+    """The answer under a name; an empty one if there is none, or if it isn't complete."""
     try:
         with open(name, encoding="utf-8") as file:
             found = json.load(file)
@@ -123,22 +123,29 @@ def answer_of(lot: Lot, log: str) -> Optional[Dict[str, Any]]:
 
 
 def without_answer(log: str, kind: str, said: str) -> Dict[str, Any]:
-    """What stands for the answer of a log that has none."""
+    """What replaces the answer for a log that has none."""
     return {"log": log, "status": NO_ANSWER, "kind": kind, "said": said}
 
 
 def clean(folder: str) -> None:
-    """Takes away what a run that was killed left beside the names of answers."""
+    """Removes what a killed run left beside the names of answers."""
     for it in os.listdir(os.path.join(folder, JOBS)):
         if ".json.new-" in it:
             os.unlink(os.path.join(folder, JOBS, it))
 
 
 def lock(folder: str) -> int:
-    """Locks a folder as long as the descriptor is open. A ValueError says that another run has it."""
+    """Locks a folder as long as the returned descriptor is open. Raises a ValueError if another run has locked it."""
     found = os.open(folder, os.O_RDONLY)
     try:
-        fcntl.flock(found, fcntl.LOCK_EX | fcntl.LOCK_NB)
+        try:
+            fcntl.flock(found, fcntl.LOCK_EX | fcntl.LOCK_NB)
+        except OSError as error:
+            if error.errno != errno.EBADF:
+                raise
+            os.close(found)  # NFS locks only files that are open for writing
+            found = os.open(os.path.join(folder, JOBS, LOCK), os.O_RDWR | os.O_CREAT, 0o666)
+            fcntl.flock(found, fcntl.LOCK_EX | fcntl.LOCK_NB)
     except OSError as error:
         if error.errno in (errno.EWOULDBLOCK, errno.EACCES):
             raise ValueError(f"another run works in the folder {named(folder)}") from None

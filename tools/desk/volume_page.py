@@ -33,7 +33,7 @@ PAIRS = (
 
 
 def long_table(heads: Sequence[str], kinds_of: str, rows: List[str], file: str) -> str:
-    """A table whose rows behind the first ones are folded. What the page leaves out, a file has."""
+    """A table whose rows after the first ones are folded. `file` has the rows that the page leaves out."""
     shown, rest = rows[:OPEN_ROWS], rows[OPEN_ROWS:MOST_ROWS]
     text = table(heads, kinds_of, shown)
     if rest:
@@ -48,7 +48,7 @@ def bar(part: float, kind: str = "") -> str:
 
 
 def bars(share: float, expected: float, most: float) -> str:
-    """Two bars: a share, and what chance would give, of the largest share of a table."""
+    """Two bars: a share, and what chance would give, both relative to the largest share of a table."""
     return f'<div class="bars">{bar(share / most)}{bar(min(expected, most) / most, " chance")}</div>'
 
 
@@ -99,7 +99,7 @@ def of_kinds(sums: Sums) -> str:
 
 
 def suspects(answer: Dict[str, Any]) -> str:
-    """The callouts of a chip by place: those as good as each other, or the classes of a cover."""
+    """The callouts of a chip by place: equally good ones, or the classes of a cover."""
     groups = answer.get("places", [])
     joined = " or " if len(groups) == 1 else " and "
     places = [escape(it) for group in groups for it in group]
@@ -156,7 +156,7 @@ def about(test: Test, sums: Sums, made: str) -> str:
 
 
 def again(lot: Lot) -> str:
-    """The commands that make it again, and the page of one chip."""
+    """The commands that make the page of the lot again, and the page of one chip."""
     words = " ".join(map(shlex.quote, (lot.netlist, lot.result)))
     options = " ".join(map(shlex.quote, [*lot.options(), "-o", f"./{lot.folder}" if lot.folder.startswith("-") else lot.folder]))
     lines = [f"tools/volume {words} LOG .. {options}"] + ([f"tools/report {words} LOG"] if lot.applied is None else [])
@@ -164,14 +164,14 @@ def again(lot: Lot) -> str:
 
 
 def verdict(sums: Sums) -> str:
-    """What the lot comes to."""
+    """The verdict on the lot."""
     heading, *more = sentences(sums)
     good = not sums.nets and not sums.left() and not sums.wrong()
     return f'<div class="verdict{" good" if good else ""}"><h2>{escape(heading)}</h2>{"".join(map(paragraph, more))}</div>'
 
 
 def chapters(test: Test, sums: Sums) -> Iterable[str]:
-    """What a lot has, as far as it has it."""
+    """The chapters for what a lot has."""
     yield of_kinds(sums)
     if sums.nets:
         yield nets(test, sums)

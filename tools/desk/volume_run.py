@@ -1,4 +1,4 @@
-"""A run of tools/volume: what has to be there before, the jobs for logs without an answer, and the tables of all answers."""
+"""A run of tools/volume: what it needs first, the jobs for logs without an answer, and the tables of all answers."""
 
 from __future__ import annotations
 
@@ -28,7 +28,7 @@ Tell = Callable[[str], None]
 
 
 class Refused(Exception):
-    """Why nothing is done, and the status."""
+    """Says why nothing is done, and has the status."""
 
     def __init__(self, reason: str, status: int = 1):
         super().__init__(reason)
@@ -36,7 +36,7 @@ class Refused(Exception):
 
 
 class Said(NamedTuple):
-    """What is printed of a lot, how many logs have no answer yet, and what is told of these."""
+    """What is printed about a lot, how many logs have no answer yet, and what is said about these."""
 
     text: str
     left: int
@@ -53,7 +53,7 @@ def program() -> str:
 
 
 def begin_folder(folder: str, read: List[str]) -> None:
-    """Makes the folder of a lot, unless it has files of others, or files that are read."""
+    """Makes the folder of a lot. Refuses to write over files that are read, and over those of a folder that isn't of a lot."""
     cause = uncreated(folder, os.path.dirname(folder.rstrip("/")) or ".")
     if cause and not os.path.isdir(folder):
         raise Refused(cause)
@@ -67,7 +67,7 @@ def begin_folder(folder: str, read: List[str]) -> None:
 
 
 def accept(lot: Lot) -> None:
-    """Has the program read the test's files once before the logs. An `Ended` has its status."""
+    """Makes the program read the test's files once before the logs. Raises an `Ended` with the program's status if it refuses one."""
     for name in lot.files().values():
         if os.path.exists(name) and not os.path.isdir(name) and not stat.S_ISREG(os.stat(name).st_mode):
             raise Refused(f"{named(name)} is no plain file, and each job reads it")
@@ -76,7 +76,7 @@ def accept(lot: Lot) -> None:
 
 
 def ready(netlist: str, result: str, applied: Optional[str], logs: List[str], folder: str, tell: Tell) -> Lot:
-    """The lot, once all is there that its jobs need."""
+    """The lot, once it has all that its jobs need."""
     its_program = program()
     once = list(dict.fromkeys(logs))
     if len(once) < len(logs):
@@ -88,7 +88,7 @@ def ready(netlist: str, result: str, applied: Optional[str], logs: List[str], fo
 
 
 def hosts_of(plan: Plan, folder: str, tell: Tell) -> Optional[Plan]:
-    """The plan with those hosts that answer, None if none does. A host without the program stops all."""
+    """The plan with those hosts that answer; None if none does. Refuses the run if a host lacks something."""
     up = []
     for host in plan.hosts:
         found = check_host(plan, host, folder)
@@ -102,7 +102,7 @@ def hosts_of(plan: Plan, folder: str, tell: Tell) -> Optional[Plan]:
 
 
 def held(lot: Lot) -> Answers:
-    """The answers that hold, and what stands for logs that can't be read."""
+    """The answers that still hold, and what replaces them for logs that can't be read."""
     found: Answers = {}
     for log in lot.logs:
         cause = not_plain(log)
@@ -113,7 +113,7 @@ def held(lot: Lot) -> Answers:
 
 
 def do(lot: Lot, plan: Plan, left: List[str], largest: int) -> Answers:
-    """Runs the jobs for the logs that were saved as left, in batches. Returns the answers, and why there is none where a job failed."""
+    """Runs the jobs for the logs that were saved as left, in batches. Returns the answers, and for a log whose job failed why it has none."""
     for name in (answer_name(lot.folder, it) for it in left):
         if os.path.exists(name):
             os.unlink(name)
@@ -127,7 +127,7 @@ def do(lot: Lot, plan: Plan, left: List[str], largest: int) -> Answers:
 
 
 def run(lot: Lot, plan: Plan, tell: Tell) -> Answers:
-    """Runs all jobs that are left; those without an answer once more, each log alone."""
+    """Runs all jobs that are left. The logs that then have no answer are tried once more, each alone. Returns all answers."""
     locked = lock(lot.folder)
     try:
         clean(lot.folder)

@@ -1,4 +1,4 @@
-"""What the answers of a lot come to: kinds of chips, the nets and bridges that are called out most, failing patterns and positions."""
+"""Sums up the answers of a lot: kinds of chips, the nets and bridges that are called out most, failing patterns and positions."""
 
 from __future__ import annotations
 
@@ -16,8 +16,8 @@ Answer = Dict[str, Any]
 
 
 class Row(NamedTuple):
-    """A row of a Pareto: nets, in how many chips they are called out, with which weight, which share of all weights that is, and which share
-    chance would give them."""
+    """A row of a Pareto: the nets, how many chips call them out, the weight, its share of all weights, and the share that chance would give
+    them."""
 
     nets: Tuple[str, ...]
     chips: int
@@ -27,7 +27,7 @@ class Row(NamedTuple):
 
     @property
     def ratio(self) -> float:
-        """How many times what chance would give."""
+        """How many times the share is what chance would give."""
         return self.share / self.expected if self.expected else math.inf
 
 
@@ -48,7 +48,7 @@ def kinds(answers: Iterable[Answer], name: str = "kind") -> List[Tuple[str, int]
 
 
 def pareto(parts: List[List[Tuple[Tuple[str, ...], float]]], expected: Dict[Tuple[str, ...], float], other: float) -> List[Row]:
-    """The rows of a Pareto, the largest weight first. `parts` has for each chip what it calls out, with weights that are one together."""
+    """The rows of a Pareto, the largest weight first. `parts` has for each chip what it calls out, with weights whose sum is at most one."""
     found: Dict[Tuple[str, ...], List[float]] = {}
     for chip in parts:
         for nets, weight in chip:
@@ -79,7 +79,8 @@ def nets(answers: Iterable[Answer], expected: Dict[Tuple[str, ...], float]) -> L
 
 
 def bridged(answer: Answer) -> List[Tuple[Tuple[str, ...], float]]:
-    """The pairs of nets of a chip's exact bridges, whatever their kinds, with their weights. Bridges that aren't listed have the rest."""
+    """The pairs of nets of a chip's exact bridges, whatever their kinds, with their weights. Bridges that aren't listed have the rest of the
+    weight."""
     found: Dict[Tuple[str, ...], int] = {}
     for _, first, second in answer["bridges"]:
         pair = (min(first, second), max(first, second))
@@ -88,7 +89,7 @@ def bridged(answer: Answer) -> List[Tuple[Tuple[str, ...], float]]:
 
 
 def bridges(answers: Iterable[Answer], lines: int) -> List[Row]:
-    """The pairs of nets that exact bridges call out. By chance each pair is as likely."""
+    """The pairs of nets that exact bridges call out. By chance all pairs are equally likely."""
     parts = [bridged(it) for it in answers if it.get("bridges")]
     rows = pareto(parts, {}, 2 / (lines * (lines - 1)) if lines > 1 else 1.0)
     return [it._replace(share=it.weight / len(parts)) for it in rows]

@@ -1,4 +1,4 @@
-"""What a lot comes to in sentences. All are plain text."""
+"""Sums up a lot in sentences. All are plain text."""
 
 from __future__ import annotations
 
@@ -10,7 +10,7 @@ from telling import named
 from volume_lot import FAILED, UNREAD
 from volume_sums import WRONG_KINDS, Row, kinds
 
-TOLD = 8  # logs without an answer whose reasons are told
+TOLD = 8  # logs without an answer whose reasons are shown
 
 TEXTS = {  # what each kind means, on the page
     "single": "a single stuck-at fault predicts every observed bit",
@@ -30,7 +30,7 @@ TEXTS = {  # what each kind means, on the page
 
 
 class Sums(NamedTuple):
-    """All that a lot comes to: the answers in the order of the logs, and the rows of its tables."""
+    """What a lot gives: the answers in the order of the logs, and the rows of its tables."""
 
     answers: List[Dict[str, Any]]
     nets: List[Row]
@@ -73,7 +73,7 @@ def by_kinds(found: List[Tuple[str, int]]) -> str:
 
 
 def leads(what: str, it: Row, chips: int) -> str:
-    """Which net or pair of nets leads, in a sentence. One chip alone makes none lead."""
+    """Which net or pair of nets leads, in a sentence. None leads if only one chip calls the first one out."""
     one = len(it.nets) == 1
     if it.chips == 1:
         return f"No {'net' if one else 'pair of nets'} leads: the first is called out by one chip alone."
@@ -83,14 +83,14 @@ def leads(what: str, it: Row, chips: int) -> str:
 
 
 def reasons(sums: Sums) -> List[str]:
-    """Why logs have no answer, of the first few."""
+    """Why the first few logs without an answer have none."""
     left = sums.left()
     found = [it["said"] if it["kind"] == UNREAD else f"{named(it['log'])}: {it['said']}" for it in left[:TOLD]]
     return found + ([f"{count(len(left) - TOLD, 'more log')} without an answer: chips.csv says why"] if len(left) > TOLD else [])
 
 
 def sentences(sums: Sums) -> List[str]:
-    """What a lot comes to, the kinds first."""
+    """The sentences on a lot, the kinds first."""
     found = [f"{count(len(sums.answers), 'chip')}: {by_kinds(kinds(sums.answers))}."]
     alone = kinds((it for it in sums.answers if it.get("stuck_at")), "stuck_at")
     if sums.bridged() and alone:

@@ -21,12 +21,12 @@ from volume_lot import LOT, Lot, answer_name, answer_of, as_json, load
 
 
 def answer(lot: Lot, test: Test, log: str) -> Dict[str, Any]:
-    """The answer of a log."""
+    """The answer for a log, with the checksums by which it still holds."""
     return {"log": log, "of": lot.sums, "sum": checksum(log), **of_log(test, log)}
 
 
 def do(folder: str, first: int, end: int) -> int:
-    """Answers the logs of a part of those that are left."""
+    """Makes the answers for a part of the logs that are left. Returns the status."""
     lot, left = load(folder)
     test, failed = Test(lot), 0
     for log in left[first:end]:
@@ -40,7 +40,7 @@ def do(folder: str, first: int, end: int) -> int:
 
 
 def lacks(folder: str, sum_of: str) -> str:
-    """What a job lacks here, if it lacks something."""
+    """What a job would lack here; empty if nothing."""
     program, name = os.environ.get("DIATEST", ""), os.path.join(folder, LOT)
     if not (os.path.isfile(program) and os.access(program, os.X_OK)):
         return f"{LACKS}there is no program {named(program)}: build it there first, by ./diatest"

@@ -1,4 +1,4 @@
-"""What is wrong with words that the program doesn't understand."""
+"""Says what is wrong with words that the program doesn't understand."""
 
 from __future__ import annotations
 
@@ -10,12 +10,12 @@ from telling import named
 from usage import COMMANDS, HELPERS, NUMBERS, FileOption, helper_line
 
 NUMBER = re.compile(r"\+?[0-9]+|[+-]?0+")
-VALUE, NAME = re.compile(r"[^-].*|-0*[1-9][0-9]*|", re.DOTALL), re.compile(r"[^-].*|-?", re.DOTALL)  # what may stand behind an option
+VALUE, NAME = re.compile(r"[^-].*|-0*[1-9][0-9]*|", re.DOTALL), re.compile(r"[^-].*|-?", re.DOTALL)  # what may follow an option
 KINDS = COMMANDS["dict"].words.split()[0].split("|")
 
 
 def near(word: str, among: Iterable[str]) -> str:
-    """The one of some words that is nearest to a word, as a text."""
+    """Which of some words is nearest to a word, as the end of a sentence; empty if none is near."""
     found = [it for it in among if word.startswith(it) or it.startswith(word) and word] or difflib.get_close_matches(word, among, 1)
     return f"; the nearest is {found[0]}" if found else ""
 
@@ -43,7 +43,7 @@ def wrong_number(what: str, text: str, least: int, most: int) -> str | None:
 
 
 def split(name: str, words: list[str]) -> tuple[list[tuple[str, str | None]], list[str]]:
-    """The options of a command with their values, None where one is missing, and its other words."""
+    """The options of a command with their values, None if one is missing, and its other words."""
     known = {f"--{it.name}": NAME if isinstance(it, FileOption) else VALUE for it in COMMANDS[name].options}
     options, others, plain, at = [], [], False, 0
     while at < len(words):
