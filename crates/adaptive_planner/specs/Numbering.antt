@@ -45,7 +45,7 @@ pub record ArePairTold (c : ClassNumbers) (one other : ℕ) : Type 0 where
   pub within : pattern < length c.firsts.items
   pub differ : class_number c pattern one ≢ class_number c pattern other
 
--- There is a class, and some pattern tells each two different classes apart.
+-- There is a class, and any two different classes are told apart by some pattern.
 pub record AreAllTold (c : ClassNumbers) : Type 0 where
   pub class : 0 < length c.own.items
   pub apart : (one other : ℕ) → one < length c.own.items → other < length c.own.items → one ≢ other → ArePairTold c one other

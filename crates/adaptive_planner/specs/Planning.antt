@@ -14,12 +14,13 @@ use Rattle.adaptive_planner.specs.Numbering.{ArePairTold, AreNumbersOfTable, num
 use Rattle.adaptive_planner.specs.Parting.{classes_of}
 use Rattle.adaptive_planner.specs.Counting.{AreCountsOf}
 
--- Some pattern tells any two classes of the set apart.
+-- Any two classes of the set are told apart by some pattern.
 abbrev pub AreSetTold : ClassNumbers → List ℕ → Type 0
 AreSetTold c [] = ⊤
 AreSetTold c (class ∷ set) = AllByRecursion (ArePairTold c class) set × AreSetTold c set
 
--- The set has at least one class and fewer than 2^32, all of them are known, and some pattern tells any two apart.
+-- The set has at least one class and fewer than 2^32, all of them are known, and any two are told apart by some
+-- pattern.
 pub record IsToldSet (c : ClassNumbers) (set : List ℕ) : Type 0 where
   pub some : 0 < length set
   pub known : AllByRecursion (λ class. class < length c.own.items) set

@@ -59,10 +59,10 @@ RefusedForLength = (plan : Plan) (kind : PlanKind) (line : ℕ) → IsWellFormed
 abbrev pub OneOutcome : Type 0
 OneOutcome = (plan : Plan) (text : Text) (end other : Outcome) → IsWellFormed plan → LeadsTo plan text end → LeadsTo plan text other → end ≡ other
 
--- a log that is refused leads to no outcome, not even to `Unknown`
+-- in a well-formed plan a log that is refused leads to no outcome, not even to `Unknown`
 abbrev pub RefusedWalkIsWrong : Type 0
 RefusedWalkIsWrong = (plan : Plan) (text : Text) (end : Outcome) (kind : LogKind) (line : ℕ) → IsWellFormed plan → WalkRefused plan text kind line → ¬ LeadsTo plan text end
 
--- a log is refused for at most one rule, at one line
+-- in a well-formed plan a log is refused for at most one rule, at one line
 abbrev pub OneWalkRefusal : Type 0
 OneWalkRefusal = (plan : Plan) (text : Text) (kind other : LogKind) (line number : ℕ) → IsWellFormed plan → WalkRefused plan text kind line → WalkRefused plan text other number → (kind ≡ other) × (line ≡ number)

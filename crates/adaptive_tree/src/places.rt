@@ -57,7 +57,7 @@ fn branch_place(steps: &[Step], first: usize, count: u32, digits: &[u8]) -> Opti
     None
 }
 
-// Returns whether a step is the branch for the answer of these digits.
+// Returns whether a step that begins a branch begins that for the answer of these digits.
 fn is_branch_for(step: &Step, digits: &[u8]) -> bool
     ensures { (answer : List Bool) → step.now ≡ On answer → result ≡ same_bits answer (digit_bits digits.now) }
 {

@@ -25,9 +25,9 @@ struct HeadLine<'a> {
     rest: &'a [u8],
 }
 
-/// Returns the plan of a text. Returns `At` with a kind and a line exactly if the text isn't that of a plan: it has
-/// more than `diagnose::TEXT_LIMIT` bytes (`TooLong`), or this is its first line that breaks a rule (`Syntax`, `Order`
-/// or `Value`).
+/// Returns the plan of a text. Memory aside, returns `At` with a kind and a line exactly if the text isn't that of a
+/// plan: it has more than `diagnose::TEXT_LIMIT` bytes (`TooLong`), or this is its first line that breaks a rule
+/// (`Syntax`, `Order` or `Value`).
 pub fn read_plan(alloc: Global, bytes: &[u8]) -> Result<Plan, PlanFault>
     ensures read { IfOk result (λ plan. IsTextOf plan bytes.now) }
     ensures refused { IfErr result (TellsPlanFault (PlanRefused bytes.now)) }

@@ -18,9 +18,9 @@ use std::alloc::Global;
 /// Returns where a log of answers leads in a plan. Returns `Unknown` exactly if the answers lead to an ask that has no
 /// branch for the last of them.
 ///
-/// Returns `At` with a kind and a line exactly if the text isn't a log of answers to this plan: it has more than
-/// `diagnose::TEXT_LIMIT` bytes (`TooLong`), or this is its first line that breaks a rule (`Syntax`, `Order` or
-/// `Width`). The code takes no memory, but no clause says so.
+/// Memory aside, returns `At` with a kind and a line exactly if the text isn't a log of answers to this plan: it has
+/// more than `diagnose::TEXT_LIMIT` bytes (`TooLong`), or this is its first line that breaks a rule (`Syntax`, `Order`
+/// or `Width`). The code takes no memory, but no clause says so.
 pub fn follow(_alloc: Global, plan: &Plan, log: &[u8]) -> Result<Outcome, LogFault>
     requires { IsWellFormed plan.now }
     ensures led { IfOk result (λ outcome. LeadsTo plan.now log.now outcome) }

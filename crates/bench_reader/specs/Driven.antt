@@ -1,4 +1,5 @@
--- What is known of the statements of every netlist that is read: each name is driven once, and no other name is used.
+-- What is known of the statements of every netlist that is read: no name is driven twice, and each name that is used is
+-- driven.
 use Rattle.std.specs.Prelude.{◌≢◌, ℕ, ◌+◌, ◌<◌, ◌≤◌, Bool, true, List, [], ◌∷◌, length, map, filter_map, flat_map, sum_by, All, AllPairs, Contains, IsTrue, Option, None, Some}
 use Rattle.net_model.specs.Gate.{takes_pins}
 use Rattle.bench_reader.specs.declared.reading.TheConstants.{NETLIST_LIMIT}

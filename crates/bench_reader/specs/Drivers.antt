@@ -45,7 +45,7 @@ fault_by None (Some word) = Some (Undriven, word.place)
 fault_by None None = None
 
 -- the first word that drives a name again, or else the first use of a name that nothing drives, as a rule and a place;
--- none if each name is driven once and no other is used
+-- none if no name is driven twice and each name that is used is driven
 abbrev pub driver_fault : List Statement → Option (NetKind × Place)
 driver_fault statements = fault_by (second_driver statements) (missing_driver statements)
 

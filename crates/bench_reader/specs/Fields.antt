@@ -8,6 +8,6 @@ use Rattle.bench_reader.specs.Driven.{IsDriven}
 abbrev pub netlist_in : Inside → Netlist
 netlist_in a = record { statements = a.statements.items; names = texts_of_names a.names.items }
 
--- Each name is driven once, and no other is used.
+-- The netlist that the fields show is as `IsDriven` says.
 abbrev pub AreStatementsFields : Inside → Type 0
 AreStatementsFields a = IsDriven (netlist_in a)

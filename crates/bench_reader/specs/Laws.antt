@@ -28,6 +28,6 @@ OneNetlist = (text : Text) (one other : Netlist) → IsNetlist text one → IsNe
 abbrev pub SpelledIsAccepted : Type 0
 SpelledIsAccepted = (text : Text) (statements : List Written) → length text ≤ NETLIST_LIMIT → Spells text statements → AreRightTogether statements → (netlist : Netlist) × IsNetlist text netlist × IsAsWritten statements netlist
 
--- a line for each statement spells the statements
+-- a line for each statement spells the statements, if each of their names and words is a run of bytes of names
 abbrev pub LinesSpell : Type 0
 LinesSpell = (statements : List Written) → All HasRuns statements → Spells (flat_map written_line statements) statements

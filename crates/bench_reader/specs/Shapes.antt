@@ -58,7 +58,8 @@ pub record IsStatement (text : Text) (tokens : List Token) (found : Shape × Pla
 abbrev pub head_tokens : Text → GateHead → List Token
 head_tokens text head = token_in text head.name ∷ token_in text head.equals ∷ token_in text head.word ∷ token_in text head.bracket ∷ []
 
--- The tokens at the beginning of a gate are at their places, and its word means this.
+-- The tokens at the beginning of a gate are of these kinds and, except the equals sign, at their places. The word means
+-- this.
 pub record IsGateHead (text : Text) (head : GateHead) : Type 0 where
   pub name : IsLexeme text head.name
   pub is_name : head.name.kind ≡ lexeme.Name

@@ -26,7 +26,8 @@ pub fn spelled_is_accepted()
     ensures { SpelledIsAccepted }
 {}
 
-/// A text with a line for each statement spells the statements.
+/// A text with a line for each statement spells the statements, if each of their names and words is a run of bytes of
+/// names (`HasRuns`).
 pub fn lines_spell()
     ensures { LinesSpell }
 {}

@@ -69,7 +69,7 @@ fn meet_line(best: &mut Best, cones: &LineCones, sought: &Sought, x: u32) -> Res
     Ok(())
 }
 
-// Returns whether the circuit with line `x` turned fits some chosen line of the log. If not, no bridge is met at `x`.
+// Returns false only if the circuit with line `x` turned fits no chosen line of the log. Then no bridge is met at `x`.
 fn may_meet(sought: &Sought, x: u32) -> bool
     requires x { x < length sought.now.rows.turned }
     requires wide { All (λ row. length row ≡ length sought.now.rows.free) sought.now.rows.turned }

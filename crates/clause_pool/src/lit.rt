@@ -6,7 +6,7 @@ ghost use Rattle.clause_pool.specs.LiteralCode.{code_of};
 
 use std::marker::Model;
 
-/// A variable or its negation. Variables are numbered from 1.
+/// A variable or its negation. Variables are numbered from 1, and are below 2^31.
 #[derive(Clone, Copy, Debug, PartialEq, Eq)]
 pub struct Lit {
     // Twice the variable, and one more if the literal is positive.

@@ -1,4 +1,4 @@
--- Groups of numbers of two classes or more. The numbers of a class are always in one group.
+-- Groups of numbers of two classes or more, if the numbers of a class are always in one group.
 use Rattle.std.specs.Prelude.{◌≡◌, ◌≢◌, ◌<◌, ℕ, Bool, List, length, filter, nat_lt, All, AllPairs, Contains}
 use Rattle.std.specs.List.{range_with_len}
 use Rattle.net_model.specs.ClassTable.{ClassTable, class_at, class_count, members, representative}

@@ -19,7 +19,7 @@ pub(crate) struct Stated {
     pub(crate) evidence: Vec<Option<Span>>,
 }
 
-/// A line of the text with its LF, from the first byte up to `end`.
+/// A line of the text with its LF, from byte `start` up to `end`, which isn't included.
 #[derive(Clone, Copy)]
 pub(crate) struct Span {
     pub(crate) start: usize,

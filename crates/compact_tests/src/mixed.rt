@@ -1,4 +1,4 @@
-//! Groups of numbers of two classes or more. The numbers of a class are always in one group.
+//! Groups of numbers of two classes or more, if the numbers of a class are always in one group.
 
 ghost use Rattle.std.specs.Prelude.{◌≡◌, ◌<◌, ◌^◌, length, IfOk};
 ghost use Rattle.net_model.specs.ClassTable.{class_count};

@@ -69,8 +69,8 @@ pub record HasCheck (c : Circuit) (k : Checker) : Type 0 where
 pub record IsRefusedText (c : Circuit) (text : Text) (fault : ResultFault) : Type 0 where
   pub refused : (more : Text) → FileRefused c (text ++ more) fault
 
--- The text was judged: it is that of right lines so far, or the file is refused in it. If memory is missing, this says
--- nothing.
+-- The text was judged: it is that of right lines and of the patterns waiting after them, or the file is refused in it.
+-- If memory is missing, this says nothing.
 abbrev pub IsJudged : Circuit → Text → Checker → Result (Unit {0}) Stop → Type 0
 IsJudged c text k (Ok x) = IsCheckOf c text k
 IsJudged c text k (Err (stop.Refused fault)) = IsRefusedText c text fault
@@ -80,7 +80,7 @@ IsJudged c text k (Err stop.NoMemory) = ⊤
 pub record JudgesText (c : Circuit) (old new : Checker) (more : Text) (result : Result (Unit {0}) Stop) : Type 0 where
   pub judged : (text : Text) → IsCheckOf c text old → length (text ++ more) ≤ RESULT_LIMIT → IsJudged c (text ++ more) new result
 
--- The waiting lines are judged.
+-- The text that was judged stays judged, or the file is refused for a waiting pattern.
 pub record JudgesWaiting (c : Circuit) (old new : Checker) (result : Result (Unit {0}) Stop) : Type 0 where
   pub judged : (text : Text) → IsCheckOf c text old → IsJudged c text new result
 
@@ -106,6 +106,6 @@ IsWholly c text rest k (Ok x) = (rest ≡ []) × IsJudgedWhole c text k
 IsWholly c text rest k (Err (stop.Refused fault)) = FileRefused c (text ++ rest) fault
 IsWholly c text rest k (Err stop.NoMemory) = ⊤
 
--- The end of the file is judged.
+-- The end of the file is judged, if all of it is within the limit.
 pub record JudgesEnd (c : Circuit) (old new : Checker) (rest : Text) (result : Result (Unit {0}) Stop) : Type 0 where
   pub judged : (text : Text) → IsCheckOf c text old → length (text ++ rest) ≤ RESULT_LIMIT → IsWholly c text rest new result

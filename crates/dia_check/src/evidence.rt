@@ -66,8 +66,8 @@ impl<'a> EvidenceChecker<'a> {
     }
 
     // Checks the proof of evidence within the budgets. The pool must be empty; after the call it is empty again,
-    // whatever is returned, and has no fewer places. Returns `Refused` if the proof isn't right, with the rule that it
-    // breaks, and the token or chain that breaks it.
+    // whatever is returned, and has no fewer places. Returns `Refused` only if the proof isn't right, with the rule
+    // that it breaks, and the token or chain that breaks it.
     pub(crate) fn check(
         &mut self,
         subject: &Subject,

@@ -24,8 +24,8 @@ abbrev pub OneFileOfStream : Type 0
 OneFileOfStream = (c : Circuit) (blocks : ℕ) (summary other : Summary) (file text : Text) → IsCircuit c
     → IsMade c (stream_budgets blocks) summary file → IsMade c (stream_budgets blocks) other text → (file ≡ text) × (summary ≡ other)
 
--- Two files that are made from one list and for one circuit, without budgets of cubes and conflicts, are the same text
--- and have the same summary.
+-- Two files that are made from one list, for one circuit and as many blocks, without budgets of cubes and conflicts,
+-- are the same text and have the same summary.
 abbrev pub OneFileOfList : Type 0
 OneFileOfList = (c : Circuit) (vectors : List (List Bool)) (blocks : ℕ) (summary other : Summary) (file text : Text) → IsCircuit c
     → IsMadeFrom c vectors (stream_budgets blocks) summary file → IsMadeFrom c vectors (stream_budgets blocks) other text → (file ≡ text) × (summary ≡ other)

@@ -56,8 +56,8 @@ HasNoRefutation (proof.Spent tree log) = ⊤
 
 -- The generator may write this file for the circuit and the budgets from a list of vectors, and the file amounts to
 -- this summary. The file is true and its lines are valid. Its first patterns are those of the list that are kept, and
--- each later pattern separates the next number from its representative. Without a budget of cubes nothing was searched,
--- without a budget of conflicts nothing is refuted, and without both there is no later pattern.
+-- each later pattern separates the next number from its representative. Without a budget of cubes each tree is one open
+-- leaf, without a budget of conflicts nothing is refuted, and without both there is no later pattern.
 pub record IsMadeFrom (c : Circuit) (vectors : List (List Bool)) (budgets : Budgets) (summary : Summary) (file : Text) : Type 0 where
   -- The file states these budgets, and what it states is true of the circuit.
   pub is_true : IsTrueFile c budgets file

@@ -68,7 +68,7 @@ impl Ahead {
     }
 }
 
-// Returns for each number whether it is the lowest number with its root.
+// Returns for each number whether it is the lowest number with its root, but no clause says so.
 fn lowest_of_roots(alloc: Global, roots: &[u32]) -> Result<Vec<bool>, AllocError>
     requires { All (λ root. root < length roots.now) roots.now }
     ensures { IfOk result (λ lowest. length lowest.items ≡ length roots.now) }

@@ -5,8 +5,8 @@ ghost use Rattle.net_model.specs.ClassTable.{class_at, representative};
 
 use class_refine::Classes;
 
-// Returns the lowest number below `limit` that is a member of a class numbered `first` or higher and isn't its
-// representative. Returns `limit` if there is none.
+// Returns a number, at most `limit`, below which each number of a class numbered `first` or higher is its
+// representative.
 pub(crate) fn lowest_fallen(classes: &Classes, first: u32, limit: u32) -> u32
     ensures within { result ≤ limit }
     ensures leads { (n : ℕ) → n < result → n < length classes.now.class_of → first ≤ class_at classes.now n → representative classes.now (class_at classes.now n) ≡ n }
@@ -18,7 +18,7 @@ pub(crate) fn lowest_fallen(classes: &Classes, first: u32, limit: u32) -> u32
     lowest
 }
 
-// Returns the second of `members` if it is lower than `limit`, else `limit`.
+// Returns a number that is at most `limit`, and at most the second of `members` if there is one.
 fn up_to_second(members: &[u32], limit: u32) -> u32
     ensures within { result ≤ limit }
     ensures second { 1 < length members.now → result ≤ slice_index members.now 1 }

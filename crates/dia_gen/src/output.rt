@@ -22,8 +22,8 @@ use pair_sets::{covering_is_equal, full_tree_is_covered, leaves_are_closed};
 use result_file::{Budgets, Record, Summary};
 use std::alloc::Global;
 
-/// Generates a result from the first blocks of the stream and appends it to the created file, in pieces of whole lines.
-/// Before each search all lines made so far are written.
+/// Generates a result from the first blocks of the stream and appends it to the created file. It writes pieces of whole
+/// lines, and before each search all lines made so far, but no clause says so.
 ///
 /// Returns `Failed` only if the count of write faults rose; on a sure shelf never. If it returns `NoMemory` on a sure
 /// shelf, no count rose. After any error the count of read faults is as before; if the shelf tells its files, a
@@ -47,7 +47,7 @@ pub fn generate<S: Shelf>(
     // what was appended.
     ensures written { IfOk result (λ summary. (file : List ℕ) × IsMade circuit.now budgets summary file × Told (S.state shelf.old) (S.state shelf.new) (Writes file)) }
 
-    // If the budget has as many cubes as there are vectors, no member is left open.
+    // If the budget has at least as many cubes as there are vectors, no member is left open.
     ensures complete { IfOk result (λ summary. 2 ^ circuit.now.sources ≤ budgets.cubes → summary.spent ≡ 0) }
 
     // After an error there is a beginning of right lines, the last perhaps cut. If the shelf tells its files, it is
@@ -103,7 +103,7 @@ pub fn top_up<S: Shelf>(
     // If the shelf tells its files, it is what was appended.
     ensures written { IfOk result (λ topped. (file : List ℕ) × IsToppedUp circuit.now vectors.now budgets topped file × Told (S.state shelf.old) (S.state shelf.new) (Writes file)) }
 
-    // If the budget has as many cubes as there are vectors, no member is left open.
+    // If the budget has at least as many cubes as there are vectors, no member is left open.
     ensures complete { IfOk result (λ topped. 2 ^ circuit.now.sources ≤ budgets.cubes → topped.summary.spent ≡ 0) }
 
     // After an error there is a beginning of right lines, the last perhaps cut. If the shelf tells its files, it is

@@ -189,7 +189,7 @@ fn settle_miter(
 }
 
 // Returns what the solver finds for the pair of `miter` within `conflicts` conflicts. The pool has the miter's clauses.
-// A refutation has only the chains that its end needs.
+// A refutation is trimmed to the chains that its end needs.
 fn solve_pair(
     alloc: Global,
     miter: &Miter,

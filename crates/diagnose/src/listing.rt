@@ -84,7 +84,7 @@ fn joined(
     Ok(bits)
 }
 
-// Returns the row of `rows` that is equal to the only row of `one`, or none if no row is.
+// Returns the place of a row of `rows` that is equal to the only row of `one`, or none if no row is.
 fn find_row(rows: &AnswerRows, one: &AnswerRows) -> Option<usize>
     requires one { length one.now ≡ 1 }
     requires wide { All (λ row. length row ≡ length (slice_index_or one.now 0 [])) rows.now }

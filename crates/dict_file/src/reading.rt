@@ -22,9 +22,9 @@ pub const DICTIONARY_LIMIT: u64 = 1_099_511_627_776;
 
 /// Reads bytes as a dictionary, in version 1 or 2.
 ///
-/// Returns a fault exactly if the bytes are no dictionary's file: `Magic`, `Version`, `Kind`, `Short`, `Value` or
-/// `Trailing` for the first field or row in the order of the file that is wrong. `TooLong` comes first, for more than
-/// [`DICTIONARY_LIMIT`] bytes. Returns `NoMemory` if memory is missing.
+/// Memory aside, returns a fault exactly if the bytes are no dictionary's file: `Magic`, `Version`, `Kind`, `Short`,
+/// `Value` or `Trailing` for the first field or row in the order of the file that is wrong. `TooLong` comes first, for
+/// more than [`DICTIONARY_LIMIT`] bytes. Returns `NoMemory` if memory is missing.
 pub fn decode(alloc: Global, bytes: &[u8]) -> Result<Dict, DictFault>
     ensures read { IfOk result (λ dict. IsFileOf dict bytes.now) }
     ensures refused { IfErr result (TellsDictFault (IsRefusedBy bytes.now)) }

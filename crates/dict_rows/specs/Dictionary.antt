@@ -14,7 +14,7 @@ use Rattle.dict_rows.specs.Grouped.{IsGrouped, group_row}
 abbrev pub entry_of : Dict → ℕ → List Bool
 entry_of d number = group_row d.groups d.entries number
 
--- There is a group number for each number and one entry row for each group, and different rows differ.
+-- There is a group number for each number and one entry row for each group, and no row is equal to another.
 abbrev pub IsGroupedDict : Dict → Type 0
 IsGroupedDict d = IsGrouped d.numbers d.groups d.entries
 
@@ -35,8 +35,8 @@ pub record IsShaped (d : Dict) : Type 0 where
   pub baselines : AreRows (baseline_count d.kind d.patterns) d.positions d.baselines
   pub entries : All (λ row. length row ≡ entry_width d.kind d.patterns d.positions) d.entries
 
--- The dictionary is of this kind and these sizes, grouped and shaped, and has these baselines and this entry for each
--- number.
+-- The dictionary is of this kind, grouped and shaped, and has the sizes of the answers, these baselines and this entry
+-- for each number.
 pub record IsDictionary (d : Dict) (kind : DictKind) (t : Answers) (baselines : List (List Bool)) (entry : ℕ → List Bool) : Type 0 where
   pub kind_is : d.kind ≡ kind
   pub positions_are : d.positions ≡ t.positions

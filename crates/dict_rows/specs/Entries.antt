@@ -19,7 +19,7 @@ full_entry rows number = flat_map (λ row. answer_in row number) rows
 abbrev pub same_diff_entry : List (List (List Bool)) → List (List Bool) → ℕ → List Bool
 same_diff_entry rows baselines number = differences (answers_of rows number) baselines
 
--- The fault-free answers, which are the baselines of the pass/fail entry.
+-- What number 0, the fault-free circuit, answers: the baselines of the pass/fail entry.
 abbrev pub free_baselines : List (List (List Bool)) → List (List Bool)
 free_baselines rows = answers_of rows 0
 

@@ -14,7 +14,7 @@ pub record IsLeastUnused (used : List ℕ) (group : ℕ) : Type 0 where
   pub unused : Contains used group → ⊥
   pub lower : (g : ℕ) → g < group → Contains used g
 
--- Each group number is that of a lower number, or the least one that no lower number has. So that of number 0 is 0.
+-- Each group number is that of a lower number, or the least one that no lower number has. So number 0 is in group 0.
 pub record AreGroupNumbers (groups : List ℕ) : Type 0 where
   pub each : (n : ℕ) → n < length groups → Contains (take n groups) (slice_index groups n) ⊎ IsLeastUnused (take n groups) (slice_index groups n)
 
@@ -22,7 +22,8 @@ pub record AreGroupNumbers (groups : List ℕ) : Type 0 where
 pub record AreDifferent (rows : List (List Bool)) : Type 0 where
   pub apart : (a b : ℕ) → a < length rows → b < length rows → slice_index_or rows a [] ≡ slice_index_or rows b [] → a ≡ b
 
--- There is a group number for each number and an entry row for each used group, and different rows differ.
+-- There is a group number for each number, as in `AreGroupNumbers`, and an entry row for each used group. No row is
+-- equal to another.
 pub record IsGrouped (numbers : ℕ) (groups : List ℕ) (entries : List (List Bool)) : Type 0 where
   pub one_each : length groups ≡ numbers
   pub numbered : AreGroupNumbers groups
@@ -38,7 +39,7 @@ pub record AreGroupsOf (rows : List (List Bool)) (groups : List ℕ) (entries : 
   pub grouped : IsGrouped (length rows) groups entries
   pub own : (n : ℕ) → n < length rows → group_row groups entries n ≡ slice_index_or rows n []
 
--- These are the groups of the first `count` rows, and the first row of each group.
+-- These are the groups of the first `count` rows, and for each group the place of a row that is equal to its rows.
 pub record AreFirstsOf (rows : List (List Bool)) (count : ℕ) (groups firsts : List ℕ) : Type 0 where
   pub one_each : length groups ≡ count
   pub numbered : AreGroupNumbers groups

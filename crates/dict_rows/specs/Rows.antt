@@ -34,8 +34,8 @@ pub record IsRowTested (answers : ℕ → Bool → Type 0) (old new : List (List
   pub here : (at : ℕ) → at < count → at < length (row_at old row) → answers at (row_bit new row at)
   pub others : (r : ℕ) → r ≢ row → row_at new r ≡ row_at old r
 
--- The new rows have `count` of these bits in one row starting at `start`, and the other rows and all bits before
--- `start` as before.
+-- The new rows have `count` of these bits in one row starting at `start`, as far as the row goes, and the other rows
+-- and all bits before `start` as before.
 pub record AreBitsSet (old new : List (List Bool)) (row start count : ℕ) (bits : ℕ → Bool) : Type 0 where
   pub shape : HaveSameShape old new
   pub here : (k : ℕ) → k < count → start + k < length (row_at old row) → row_bit new row (start + k) ≡ bits k

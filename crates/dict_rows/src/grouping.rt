@@ -47,7 +47,7 @@ pub fn first_repeat(alloc: Global, rows: &AnswerRows) -> Result<Option<u32>, All
     Ok(None)
 }
 
-/// The group of each row, and the first row of each group.
+/// The group of each row, and for each group the place of a row that is equal to its rows.
 #[derive(Drop)]
 pub struct Sorted {
     pub groups: Groups,

@@ -34,8 +34,8 @@ pub fn full(alloc: Global, table: &AnswerTable) -> Result<Dict, AllocError>
     })
 }
 
-/// Returns the pass/fail dictionary: an entry says at which patterns a number answers differently from the fault-free
-/// circuit.
+/// Returns the pass/fail dictionary: an entry says at which patterns a number answers differently from number 0, the
+/// fault-free circuit.
 pub fn pass_fail(alloc: Global, table: &AnswerTable) -> Result<Dict, AllocError>
     requires { 0 < table.now.numbers }
     ensures { IfOk result (IsPassFail table.now) }

@@ -1,4 +1,4 @@
--- Laws: what accepted evidence shows, and that evidence is refused in one way and only if it isn't right.
+-- Laws: what accepted evidence shows, and that evidence is refused in at most one way, and only if it isn't right.
 use Rattle.std.specs.Prelude.{◌≡◌, ◌≢◌, ◌⊎◌, ℕ, List, None, Some}
 use Rattle.net_model.specs.declared.fault.Fault.{Fault}
 use Rattle.net_model.specs.Circuit.{Circuit, IsCircuit}
@@ -32,12 +32,12 @@ StoppedChainHasNoEnd = (clauses : List Clause) (chain : ChainView) (kind : Refus
 abbrev pub ChainStopsOnce : Type 0
 ChainStopsOnce = (clauses : List Clause) (chain : ChainView) (kind other : RefusalKind) → ChainStops clauses chain kind → ChainStops clauses chain other → kind ≡ other
 
--- A refused log isn't what a refutation or a spent budget needs.
+-- A log that is refused as a refutation or as a spent log isn't what that kind of evidence needs.
 abbrev pub RefusedLogIsWrong : Type 0
 RefusedLogIsWrong = (kind : EvidenceKind) (clauses : List Clause) (limit : ℕ) (log : List ChainView) (refusal : Refusal) → kind ≢ Covered → LogRefused kind clauses limit log refusal
     → ¬ IsRightLog kind clauses limit log
 
--- A log is refused in at most one way: the rule and the step are the same.
+-- For its kind of evidence a log is refused in at most one way: the rule and the step are the same.
 abbrev pub OneLogRefusal : Type 0
 OneLogRefusal = (kind : EvidenceKind) (clauses : List Clause) (limit : ℕ) (log : List ChainView) (refusal other : Refusal) → LogRefused kind clauses limit log refusal → LogRefused kind clauses limit log other
     → refusal ≡ other
@@ -46,7 +46,7 @@ OneLogRefusal = (kind : EvidenceKind) (clauses : List Clause) (limit : ℕ) (log
 abbrev pub RefusedTreeIsWrong : Type 0
 RefusedTreeIsWrong = (c : Circuit) (f g : Fault) (kind : EvidenceKind) (limit : ℕ) (tokens : List Token) (refusal : Refusal) → TreeRefused c f g kind limit tokens refusal → ¬ IsRightTree c f g kind limit tokens
 
--- A tree is refused in at most one way: the rule and the step are the same.
+-- For its kind of evidence a tree is refused in at most one way: the rule and the step are the same.
 abbrev pub OneTreeRefusal : Type 0
 OneTreeRefusal = (c : Circuit) (f g : Fault) (kind : EvidenceKind) (limit : ℕ) (tokens : List Token) (refusal other : Refusal) → TreeRefused c f g kind limit tokens refusal → TreeRefused c f g kind limit tokens other
     → refusal ≡ other

@@ -14,7 +14,8 @@ pub fn chain_ends_or_stops()
     ensures one_rule { ChainStopsOnce }
 {}
 
-/// A refused log isn't what a refutation or a spent budget needs, and it is refused for one rule at one step.
+/// A log that is refused as a refutation or as a spent log isn't what that kind of evidence needs, and for that kind it
+/// is refused for one rule at one step.
 pub fn log_is_refused_once()
     ensures wrong { RefusedLogIsWrong }
     ensures once { OneLogRefusal }

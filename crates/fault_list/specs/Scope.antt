@@ -1,4 +1,4 @@
--- The scope of a pair of faults as lists of tests.
+-- The scope of a pair of faults as lists of marks.
 use Rattle.std.specs.Prelude.{◌≡◌, ℕ, ◌<◌, Bool, false, true, List, length, Contains, slice_index, ◌⊎◌, ◌==◌, ◌||◌}
 use Rattle.std.specs.Option.{option_map_or}
 use Rattle.net_model.specs.declared.fault.Fault.{Fault}

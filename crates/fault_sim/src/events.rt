@@ -54,7 +54,7 @@ pub(crate) fn turn_line(
     }
 }
 
-// Gives a gate's line its bits. Where they change, its readers wait from now on.
+// Gives a gate's line its bits. If they change, its readers wait from now on.
 fn settle(
     wiring: &Wiring,
     good: &GoodSim,

@@ -26,8 +26,8 @@ pub record IsKeeperOf (c : Circuit) (kept : KeptSoFar) : Type 0 where
   pub table : IsTableOf c kept.vectors kept.table
   pub whole : IsWhole kept.table
 
--- What is true of every keeper: each kept vector has a bit for each source and splits a class of those before it, and
--- the table is that of all of them.
+-- What is true of every keeper: its circuit is well-formed, each kept vector has a bit for each source and splits a
+-- class of those before it, and the table is that of all of them, and whole.
 abbrev pub IsKeeper : Keeper → Type 0
 IsKeeper k = IsKeeperOf k.circuit k.kept
 

@@ -23,8 +23,8 @@ pub record IsPartedBy (c : Circuit) (vectors : List (List Bool)) (t : ClassTable
 abbrev pub TablesArePartedBy : Type 0
 TablesArePartedBy = (c : Circuit) (patterns : List (List Bool)) (t : ClassTable) → IsCircuit c → IsTableOf c patterns t → IsPartedBy c patterns t
 
--- Two numbers are in one class of the table of what is kept of a list exactly if they answer alike to the whole list:
--- no vector that was left out tells apart two of one class.
+-- If nothing is kept before a list, two numbers are in one class of the table of what is kept of it exactly if they
+-- answer alike to the whole list: no vector that was left out tells apart two of one class.
 abbrev pub KeptTellAsMuch : Type 0
 KeptTellAsMuch = (c : Circuit) (vectors : List (List Bool)) (kept : KeptSoFar) → IsCircuit c → Keeps c vectors (nothing_kept (fault_count c)) kept → IsPartedBy c vectors kept.table
 
@@ -36,11 +36,11 @@ KeptAnswerAlike = (c : Circuit) (vectors kept : List (List Bool)) (m n : ℕ) �
 abbrev pub NoneOfListSplits : Type 0
 NoneOfListSplits = (c : Circuit) (vectors kept patterns : List (List Bool)) (v : List Bool) → IsCircuit c → IsKeptOf c vectors kept → All (Contains patterns) kept → Contains vectors v → SplitsClass c patterns v → ⊥
 
--- If a list comes again, nothing more of it is kept.
+-- If a list comes twice to a whole table, nothing of it is kept the second time.
 abbrev pub KeptOnce : Type 0
 KeptOnce = (c : Circuit) (vectors : List (List Bool)) (old new : KeptSoFar) → IsWhole old.table → Keeps c vectors old new → Keeps c vectors new new
 
--- Nothing is kept of a list whose vectors split no class of what is kept already.
+-- A keeper keeps nothing of a list whose vectors split no class of what it has kept already.
 abbrev pub NothingMoreIsKept : Type 0
 NothingMoreIsKept = (c : Circuit) (vectors : List (List Bool)) (kept : KeptSoFar) → IsKeeper (keeper_with c kept) → All (λ v. SplitsClass c kept.vectors v → ⊥) vectors → Keeps c vectors kept kept
 

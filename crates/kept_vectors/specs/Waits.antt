@@ -11,8 +11,8 @@ module _ (good : GoodSim) (t : ClassTable) where
   abbrev pub IsLed : ℕ → ℕ → Type 0
   IsLed lane n = AreAlikeAt good lane n (representative t (class_at t n))
 
-  -- `lane` is the first lane, starting at `from`, at which the number answers otherwise than the representative of its
-  -- class.
+  -- At `lane` the number answers otherwise than the representative of its class, and at the lanes from `from` to before
+  -- `lane` it answers as that does.
   pub record LeavesFirst (from lane n : ℕ) : Type 0 where
     pub number : n < length t.class_of
     pub differs : IsLed lane n → ⊥

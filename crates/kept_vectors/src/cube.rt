@@ -85,7 +85,7 @@ fn bind(cube: &mut [Option<bool>], other: &[Option<bool>])
 }
 
 // Gives the cubes equal shares of the lanes of `block`, one after another, and sets the bound sources of each cube in
-// its share.
+// its share. Lanes that are left over stay as they are.
 pub(crate) fn fix_cubes(block: &mut Block, cubes: &[Cube])
     requires some { 0 < length cubes.now }
     requires live { 0 < length block.old.vectors }

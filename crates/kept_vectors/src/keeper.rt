@@ -131,7 +131,8 @@ impl<'a> Keeper<'a> {
 
     /// Looks at a block of vectors of `cubes`, one cube or more: the free sources have the bits of the next blocks of
     /// the stream, and the cubes have equal shares of the lanes; if there are more cubes than lanes, the first ones
-    /// have a lane each. What is kept stays, also after an error, but then no block is looked at.
+    /// have a lane each. Lanes that are left over stay as in the stream. What is kept stays, also after an error, but
+    /// then no block is looked at.
     pub fn look(&mut self, cubes: &[Cube]) -> Result<(), AllocError>
         requires some { 0 < length cubes.now }
         requires widths { All (λ cube. length cube ≡ self.old.circuit.sources) cubes.now }

@@ -7,7 +7,7 @@ pub fn tables_are_parted_by()
     ensures { TablesArePartedBy }
 {}
 
-/// What is kept of a list has the classes of the whole list.
+/// If nothing is kept before a list, what is kept of it has the classes of the whole list.
 pub fn kept_tell_as_much()
     ensures { KeptTellAsMuch }
 {}
@@ -22,17 +22,17 @@ pub fn none_of_list_splits()
     ensures { NoneOfListSplits }
 {}
 
-/// If a list comes again, nothing more of it is kept.
+/// If a list comes twice to a whole table, nothing of it is kept the second time.
 pub fn kept_once()
     ensures { KeptOnce }
 {}
 
-/// Nothing is kept of a list whose vectors split no class of what is kept already.
+/// A keeper keeps nothing of a list whose vectors split no class of what it has kept already.
 pub fn nothing_more_is_kept()
     ensures { NothingMoreIsKept }
 {}
 
-/// If each vector of a list splits a class of those before it, all are kept.
+/// If each vector of a list has a bit for each source and splits a class of those before it, all are kept.
 pub fn splitters_are_kept()
     ensures { SplittersAreKept }
 {}

@@ -101,7 +101,7 @@ pub(crate) fn add_positions(
     Ok(())
 }
 
-// Returns whether all numbers of `group` have one root.
+// Returns true only if all numbers of `group` have one root.
 pub(crate) fn have_one_root(roots: &[u32], group: &[u32]) -> bool
     requires { All (λ number. number < length roots.now) group.now }
     ensures { result ≡ true → (k : ℕ) → k < length group.now → slice_index roots.now (slice_index group.now k) ≡ slice_index roots.now (slice_index group.now 0) }

@@ -13,8 +13,7 @@ abbrev pub IsFoundAt : TrailState → List Clause → Propagated → Type 0
 IsFoundAt trail clauses Quiet = All (IsQuiet (assigned_literals trail.assignment)) clauses
 IsFoundAt trail clauses (Conflict number) = IsConflictClause trail clauses number
 
--- At least `more` further literals are set, of the same variables, and no more literals are set than there are
--- variables.
+-- At least `more` literals more are set, of the same variables, and no more literals are set than there are variables.
 pub record GrowsBy (old new : Assignment) (more : ℕ) : Type 0 where
   pub variables : new.variables ≡ old.variables
   pub longer : length old.literals + more ≤ length new.literals

@@ -54,7 +54,8 @@ pub record HasEnds (count : ℕ) (marks : List Bool) (numbers : List ℕ) (short
   pub same : (at place : ℕ) → at < length numbers → IsNeededAt marks at → IsEndAt count numbers at place → slice_index_or kept place [] ≡ slice_index_or ends at []
   pub nonempty : All (λ end. end ≢ []) ends → All (λ end. end ≢ []) kept
 
--- Whatever the ends of the first chains are over `count` clauses, the log has those of the marked ones.
+-- If the marked chains are those that some last one needs, then whatever the ends of the first chains are over `count`
+-- clauses, the log has those of the marked ones.
 abbrev pub KeepsEnds : ℕ → List ChainView → List Bool → List ℕ → List ChainView → Type 0
 KeepsEnds count chains marks numbers short = (last : ChainView) (clauses ends : List Clause) → AreNeeded count chains last marks → length clauses ≡ count
     → log_ends clauses (take (length numbers) chains) ≡ Some ends → HasEnds count marks numbers short clauses ends

@@ -66,8 +66,8 @@ pub record IsSearch (m : Miter) (conflicts : ℕ) (search : Search) (pool : List
   pub few : length search.chains.items ≤ conflicts
   pub begins : BeginsWith pool (miter_clauses m)
 
--- One more clause is learned; or nothing is, unit propagation has nothing to do at any clause, and all variables are
--- set if a model is the aim; or the clauses are refuted.
+-- One more clause is learned; or unit propagation has nothing to do at any clause, and all variables are set if a model
+-- is the aim; or the clauses are refuted.
 abbrev pub EndsStep : Miter → ℕ → Aim → Search → Search → List Clause → SolverStep → Type 0
 EndsStep m conflicts aim old new pool Learned = IsSearch m conflicts new pool × (length new.chains.items ≡ length old.chains.items + 1)
 EndsStep m conflicts aim old new pool Open = IsSearch m conflicts new pool × All (IsQuiet (assigned_literals new.trail.assignment)) pool × (aim ≡ Model → AreAllSet new.trail.assignment)

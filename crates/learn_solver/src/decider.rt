@@ -72,8 +72,9 @@ impl Decider {
         }
     }
 
-    /// Returns a literal of an unset variable, to bring the two literals nearer to being true: one of these two, or
-    /// one of the other variables up to the highest. Returns none if all those are set, or one of the two is false.
+    /// Returns a literal of an unset variable, to bring the two literals nearer to being true: one of these two, or one
+    /// of another variable up to that of the last `turn_to`. Returns none if all those are set, or one of the two is
+    /// false.
     pub(crate) fn next_for(&mut self, trail: &Trail, both: &Both) -> Option<Lit>
         requires trail { IsTrail trail.now.assignment }
         requires variables { trail.now.assignment.variables ≡ self.old }

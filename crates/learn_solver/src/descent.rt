@@ -15,7 +15,7 @@ use clause_pool::{Lit, Pool};
 use solver_trail::{Propagated, Trail};
 
 /// Decides literals, and propagates before and after each, until a clause is false or nothing is left to decide: all
-/// variables are set, or no variable is left that is decided for an aim.
+/// variables are set, or for two literals one of them is false or no variable is left that is decided for them.
 pub(crate) fn descend(
     trail: &mut Trail,
     pool: &Pool,

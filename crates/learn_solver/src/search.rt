@@ -87,7 +87,7 @@ pub(crate) fn learn_from(
     Ok(None)
 }
 
-// Adds the clause to the pool and its chain to the log, and goes back to level `back`.
+// Adds the clause to the pool and its chain to those of the search, and goes back to level `back`.
 fn add(
     alloc: Global,
     search: &mut Search,

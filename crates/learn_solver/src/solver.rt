@@ -26,13 +26,13 @@ use pair_miter::Miter;
 use solver_trail::Trail;
 use std::alloc::{AllocError, Global};
 
-/// Searches a model of the miter and learns a clause from each conflict, at most `conflicts` of them. Returns
+/// Searches for a model of the miter and learns a clause from each conflict, at most `conflicts` of them. Returns
 /// `Vector` only if the vector separates the faults; `Refuted` only if the log's last chain ends in the empty clause,
 /// and before it at most `conflicts` chains end in clauses with literals; and `Spent` only if the log has exactly
-/// `conflicts` chains, and each ends in a fresh clause. The pool has the miter's clauses before. After the call it
-/// has them still, and after them the ends before the empty one, or the ends of the spent log; with a vector and
-/// after an error, the fresh ends of some chains, at most `conflicts` of them. The pool keeps its places, and grows
-/// only if they were too few for these clauses, to no more than they need.
+/// `conflicts` chains, and each ends in a fresh clause. The pool has the miter's clauses before. After the call it has
+/// them still, and after them the ends before the empty one, or the ends of the spent log; with a vector and after an
+/// error, the fresh ends of some chains, at most `conflicts` of them. The pool keeps its places, and grows only if they
+/// were too few for these clauses, to no more than they need.
 pub fn solve(
     alloc: Global,
     miter: &Miter,

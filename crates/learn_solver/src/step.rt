@@ -23,7 +23,7 @@ pub(crate) enum SolverStep {
     Refuted(Chain),
 }
 
-/// Descends to a false clause, and learns a clause from it.
+/// Descends, and learns a clause if the descent ends at a false one.
 pub(crate) fn take_step(
     alloc: Global,
     miter: &Miter,

@@ -72,7 +72,7 @@ fn try_all(
     Ok(None)
 }
 
-// Returns the aim that one copy of the line has this bit and the other copy the other bit.
+// Returns the aim that the first copy of the line has this bit and the second copy the other bit.
 fn apart(variables: u32, copies: Copies, bit: bool) -> Both
     requires few { variables < 2 ^ 31 }
     requires inside { AreVariables variables copies }

@@ -86,7 +86,7 @@ is_placed waits line = waits_at waits line == 0
 abbrev pub are_placed : List ℕ → List ℕ → Bool
 are_placed waits lines = list_all (is_placed waits) lines
 
--- The lines that aren't placed are those that are left of the circuit, and each is a gate that reads another such line.
+-- The lines that aren't placed are those that are left of the circuit, and each is a gate that reads such a line.
 pub record IsRest (c : Circuit) (waits : List ℕ) : Type 0 where
   pub whole : length waits ≡ line_count c
   pub left : (line : ℕ) → line < line_count c → is_left c line ≡ not (is_placed waits line)

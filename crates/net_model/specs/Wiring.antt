@@ -28,7 +28,8 @@ reads_at c order place = pins_of c (slice_index order place)
 abbrev pub shows_at : Circuit → ℕ → List ℕ
 shows_at c position = slice_index c.positions position ∷ []
 
--- The wiring belongs to the circuit. A line has as many users as destinations: one reader for each pin that reads it.
+-- The wiring belongs to the circuit. The readers of a line and the positions that show it are together as many as its
+-- destinations.
 pub record IsWiring (c : Circuit) (w : Wiring) : Type 0 where
   pub circuit : IsCircuit c
   pub order : IsOrder c w.order

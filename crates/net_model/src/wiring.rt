@@ -38,7 +38,7 @@ impl Wiring {
         self.order.as_slice()
     }
 
-    /// Returns the places in the order of the gates that read `line`, one for each pin that reads it.
+    /// Returns the places in the order of the gates that read `line`. A place may occur more than once.
     pub fn readers(&self, line: u32) -> &[u32]
         requires { line < length self.now.readers }
         ensures { result.now ≡ slice_index_or self.now.readers line [] }

@@ -14,7 +14,7 @@ pub record GrowsFor (old new : Clauses) (clauses : List Clause) : Type 0 where
   pub clauses_needed : clause_places new ≤ max (clause_places old) (length clauses)
   pub literals_needed : literal_places new ≤ max (literal_places old) (literal_count clauses)
 
--- The clauses follow the old ones, and the pool grew only if it had too few places for them.
+-- The clauses follow the old ones, and the pool grew only if it had too few places for all of them.
 pub record Adds (old new : Clauses) (clauses : List Clause) : Type 0 where
   pub written : new.clauses ≡ old.clauses ++ clauses
   pub places : GrowsFor old new (old.clauses ++ clauses)
@@ -30,7 +30,8 @@ abbrev pub WritesClauses : {T E : Type 0} → Result T E → Clauses → Clauses
 WritesClauses (Ok x) old new clauses = Adds old new clauses
 WritesClauses (Err e) old new clauses = KeepsClauses old new clauses
 
--- The old clauses are as before, others may follow them, and the pool grew only if it had too few places for these.
+-- The old clauses are as before, others may follow them, and the pool grew only if it had too few places for all of
+-- them.
 pub record Grows (old new : Clauses) : Type 0 where
   pub begins : BeginsWith new.clauses old.clauses
   pub places : GrowsFor old new new.clauses

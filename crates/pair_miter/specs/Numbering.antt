@@ -9,7 +9,7 @@ use Rattle.pair_miter.specs.declared.side.Side.TheVariants.{First, Second}
 use Rattle.pair_miter.specs.declared.side.Side.{Side}
 use Rattle.pair_miter.specs.MiterView.{Miter, miter_with}
 
--- The line has a variable of its own in the copy; in the second copy it has one only if it is split.
+-- The line has the copy: each line has the first one, and a split line the second one, too.
 abbrev pub HasCopy : Circuit → Fault → Fault → Side → ℕ → Type 0
 HasCopy c f g First line = Unit {0}
 HasCopy c f g Second line = is_split c f g line ≡ true

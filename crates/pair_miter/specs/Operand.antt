@@ -1,9 +1,9 @@
--- What the pins of a gate give in one copy.
+-- What pins and observed positions give in one copy.
 use Rattle.std.specs.Prelude.{ℕ, Bool, false, Option, None, Some}
 use Rattle.std.specs.Bool.{beq}
 use Rattle.std.specs.Option.{option_map_or}
 
--- the value at which the pin is stuck, or the variable of the line that it reads
+-- the value at which the pin or position is stuck, or the variable of the line that it reads
 pub data Operand : Type 0 where
   constant : Bool → Operand
   variable : ℕ → Operand

@@ -7,7 +7,7 @@ use std::alloc::{AllocError, Global};
 use std::marker::Model;
 
 /// A chain: the number of the clause with which it begins, the pivots and clause numbers with which it resolves, and
-/// the literal at which its clause is fresh, if it has one.
+/// the literal at which its clause is to be fresh, if it names one.
 #[derive(Debug, Drop)]
 pub struct Chain {
     start: u32,
@@ -39,8 +39,7 @@ impl Model for Log {
 }
 
 impl Chain {
-    /// Returns a chain without steps that begins with clause `start`, and whose clause is fresh at `at`, if that is a
-    /// literal.
+    /// Returns a chain without steps that begins with clause `start`, and names the literal `at`, if there is one.
     pub fn new(alloc: Global, start: u32, at: Option<Lit>) -> Chain
         ensures { result ≡ record { start = start; fresh_at = at; steps = [] } }
     {
@@ -61,7 +60,7 @@ impl Chain {
         Ok(())
     }
 
-    /// Sets the literal at which the chain's clause is fresh, or removes it.
+    /// Sets the literal that the chain names, or removes it.
     pub fn set_at(&mut self, at: Option<Lit>)
         ensures { self.new ≡ record self.old { fresh_at = at } }
     {
@@ -75,7 +74,8 @@ impl Chain {
         self.start
     }
 
-    /// Returns the literal at which the chain's clause is fresh, and none exactly if the chain has no such literal.
+    /// Returns the literal that the chain names, whether or not its clause is fresh there, and none exactly if it names
+    /// none.
     pub fn at(&self) -> Option<Lit>
         ensures { result ≡ self.now.fresh_at }
     {

@@ -87,8 +87,8 @@ impl<'a> Miter<'a> {
         self.clauses
     }
 
-    /// Returns the variables of the two copies of each split line that leads to a reached position, in an evaluation
-    /// order: first the sources, then the gates, each after those that it reads.
+    /// Returns the variables of the two copies of each line that is relevant and split, in an evaluation order: first
+    /// the sources, then the gates, each after those that it reads.
     pub fn split_lines(&self) -> Result<Vec<Copies>, AllocError>
         ensures lines { IfOk result (λ lines. AreSplitLines self.now.circuit self.now.f self.now.g lines.items) }
         ensures inside { IfOk result (λ lines. All (AreVariables (variable_count self.now.circuit self.now.f self.now.g)) lines.items) }

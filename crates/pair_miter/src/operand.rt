@@ -1,15 +1,15 @@
-//! `Operand`, what a pin of a gate gives in one copy: a variable or a constant.
+//! `Operand`, what a pin or an observed position gives in one copy: a variable or a constant.
 
 ghost use Rattle.std.specs.Prelude.{◌≡◌};
 ghost use Rattle.pair_miter.specs.Operand.{is_constant, operand_where, variable_of};
 
 use std::marker::Model;
 
-/// The value at which a pin is stuck, or the variable of the line that it reads.
+/// The value at which a pin or position is stuck, or the variable of the line that it reads.
 #[derive(Drop)]
 pub(crate) struct Operand {
     stuck: Option<bool>,
-    // The variable of the line, also if the pin is stuck.
+    // The variable of the line, also if there is a stuck value.
     variable: u32,
 }
 
@@ -22,8 +22,8 @@ impl Model for Operand {
 }
 
 impl Operand {
-    /// Returns the operand of a pin: the value `stuck` if the pin is stuck, else `variable`, that of the line that it
-    /// reads.
+    /// Returns the operand of a pin or position: the value `stuck` if it is stuck, else `variable`, that of the line
+    /// that it reads.
     pub(crate) fn new(stuck: Option<bool>, variable: u32) -> Operand
         ensures { result ≡ operand_where stuck variable }
     {

@@ -244,7 +244,7 @@ fn has_odd_constants(operands: &[Operand]) -> bool
         == 1
 }
 
-// Returns the first variable, and the operands after it.
+// Returns the first variable and the operands after it, or none if there is no variable.
 fn next_variable(operands: &[Operand]) -> Option<(u32, &[Operand])>
     ensures { MatchOption result (variables operands.now ≡ []) (λ found. variables operands.now ≡ found.0 ∷ variables found.1.now) }
 {

@@ -31,8 +31,8 @@ pub record AreSeenBefore (place : ℕ) (words : List SeenWord) : Type 0 where
   pub free : All (λ w. (k : ℕ) → k < 64 → place ≤ w.word * 64 + k → bit_of w.seen k ≡ false) words
   pub few : (entry : List Bool) → seen_mismatches words entry ≤ place
 
--- The new words have what the old ones have, and also what was seen of the bits starting at `place`, and nothing after
--- these. The mismatches of each entry that has these bits are the sum of both.
+-- The new words have nothing after the bits starting at `place`. The mismatches of each entry that has these bits are
+-- those with the old words and with what was seen of these bits, together.
 pub record IsSeenToo (old new : List SeenWord) (place : ℕ) (seen : List Seen) : Type 0 where
   pub before : AreSeenBefore (place + length seen) new
   pub counts : (entry : List Bool) → place + length seen ≤ length entry → seen_mismatches new entry ≡ seen_mismatches old entry + differing_bits seen (drop place entry)
@@ -43,8 +43,8 @@ pub record IsBitSeen (old new : SeenWord) (at : ℕ) (one : Bool) : Type 0 where
   pub seen : (k : ℕ) → k < 64 → bit_of new.seen k ≡ (if k == at then true else bit_of old.seen k)
   pub ones : (k : ℕ) → k < 64 → bit_of new.ones k ≡ (if k == at then one else bit_of old.ones k)
 
--- The words have what the lines say of an entry of the dictionary: each entry has as many mismatches with the words as
--- with the lines.
+-- The words have what the lines say of an entry of the dictionary: a row of an entry's width has as many mismatches
+-- with the words as with the lines.
 pub record AreWordsOf (d : Dict) (lines : List Line) (words : List SeenWord) : Type 0 where
   pub before : AreSeenBefore (entry_width d.kind d.patterns d.positions) words
   pub counts : (entry : List Bool) → length entry ≡ entry_width d.kind d.patterns d.positions → seen_mismatches words entry ≡ entry_mismatches d lines entry

@@ -15,7 +15,7 @@ use dict_rows::{Dict, DictKind};
 use net_model::AnswerRows;
 use std::alloc::{AllocError, Global};
 
-/// Returns the bits of an entry that the partial log gives, in the words that have such a bit.
+/// Returns the bits of an entry that the partial log gives, by words.
 pub(crate) fn observed_words(
     alloc: Global,
     dict: &Dict,

@@ -9,7 +9,7 @@ use std::{fs, io};
 
 /// A shelf of real files and standard output. It tells no contents, so that only what `Shelf` says of counts holds for
 /// it. Each call returns `Failed` if the system returns an error, a device takes none of a piece, or no file is opened
-/// or created, and its count rises each time.
+/// or created, though no clause says so; its count rises each time.
 #[derive(Drop)]
 pub struct RealShelf<'a, R: Files + Print> {
     rt: &'a R,

@@ -7,7 +7,8 @@ use Rattle.evidence_rules.specs.declared.refusal.Refusal.{Refusal}
 use Rattle.evidence_rules.specs.declared.refusal.RefusalKind.{RefusalKind}
 use Rattle.evidence_rules.specs.declared.refusal.RefusalKind.TheVariants.{NoSuchClause, NoPivot, NotEmpty, EmptyEarly, NotFresh, LeafOpen, BadTree, WrongCount}
 
--- The pool has the clauses, and after them the ends of the log's first `count` chains, and no other clause.
+-- As sets of literals, the pool has the clauses, and after them the ends of the log's first `count` chains, and no
+-- other clause.
 pub record HasEndsOf (clauses : List Clause) (log : List ChainView) (count : ℕ) (pool : List Clause) : Type 0 where
   pub ends : List Clause
   pub are : log_ends clauses (take count log) ≡ Some ends
@@ -17,8 +18,8 @@ pub record HasEndsOf (clauses : List Clause) (log : List ChainView) (count : ℕ
 abbrev pub HasSomeEnds : List Clause → List ChainView → List Clause → Type 0
 HasSomeEnds clauses log pool = (count : ℕ) × HasEndsOf clauses log count pool
 
--- How many chains are right before a log is refused: none for a wrong number of chains, else those before the named
--- one.
+-- How many chains were found right before a log is refused: none for a wrong number of chains, else those before the
+-- named one.
 abbrev pub chains_before : RefusalKind → ℕ → ℕ
 chains_before NoSuchClause step = step
 chains_before NoPivot step = step
@@ -29,6 +30,6 @@ chains_before LeafOpen step = step
 chains_before BadTree step = step
 chains_before WrongCount step = 0
 
--- How many chains are right before a log is refused so.
+-- How many chains were found right before a log is refused so.
 abbrev pub right_chains : Refusal → ℕ
 right_chains refusal = chains_before refusal.kind refusal.step

@@ -22,8 +22,8 @@ second_halves (fixed ∷ cube) = if fixed.1 then second_halves cube else ((fixed
 abbrev pub waiting_in : Walk → List Cube
 waiting_in walk = if walk.whole then [] else reverse walk.path.items ∷ second_halves (reverse walk.path.items)
 
--- The parts of the walk belong together: its circuit is one, its path is the cube that is simulated, which fixes
--- sources of the circuit once each, its scope is that of the simulated faults, and its sources are the circuit's.
+-- The parts of the walk belong together: its circuit is well-formed, its path is the cube that is simulated, which
+-- fixes sources of the circuit once each, its scope is that of the simulated faults, and its sources are the circuit's.
 pub record IsTreeWalk (walk : Walk) : Type 0 where
   pub circuit : IsCircuit walk.sim.circuit
   pub stands : walk.sim.cube ≡ reverse walk.path.items

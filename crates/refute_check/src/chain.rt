@@ -13,9 +13,9 @@ use clause_pool::{Lit, Pool};
 use pair_miter::Chain;
 use std::alloc::Global;
 
-/// Returns the last clause of a chain over the clauses of the pool, as a set. Returns `NoSuchClause` or `NoPivot`
-/// exactly if the first step that can't be made has this fault: no clause has its number, or the two clauses can't be
-/// resolved at its pivot. In one step the number is tried before the pivot.
+/// Returns the last clause of a chain over the clauses of the pool, as a set. Returns `NoSuchClause` or `NoPivot` only
+/// if the first step that can't be made has this fault: no clause has its number, or the two clauses can't be resolved
+/// at its pivot. In one step the number is tried before the pivot.
 pub fn run_chain(alloc: Global, pool: &Pool, chain: &Chain) -> Result<Clause, ChainFault>
     ensures ended { IfOk result (λ clause. EndsAs pool.now.clauses chain.now clause.literals) }
     ensures no_clause { IsErrOf result ChainFault.NoSuchClause → ChainStops pool.now.clauses chain.now RefusalKind.NoSuchClause }

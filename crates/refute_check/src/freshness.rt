@@ -108,8 +108,8 @@ impl Propagator {
     }
 }
 
-// Holds the opposites of the clause's other literals. Returns false if no set of literals can hold them and leave
-// `at` undetermined.
+// Holds the opposites of the clause's other literals. Returns false exactly if no consistent set of literals holds them
+// and leaves `at` undetermined.
 fn hold_others(held: &mut Assignment, clause: &[Lit], at: Lit) -> bool
     requires assignment { IsAssignment held.old }
     requires at { at.variable < length held.old.values.items }

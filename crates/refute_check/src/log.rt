@@ -25,12 +25,12 @@ use pair_miter::{Chain, Log, Miter};
 use std::alloc::{AllocError, Global};
 
 /// Checks the log of evidence over the clauses of the miter, with a budget of `conflicts` clauses that aren't empty.
-/// Returns `Refused` with a kind and a step exactly if the log isn't what this kind of evidence needs: its number of
-/// chains is wrong, else a chain is the first that can't be followed or has a wrong end. The step is then the number
-/// of chains, or the place of that chain, counted from 0. The pool has the miter's clauses before and after. After
-/// them it then has the ends of the chains before the last one of a right log, of those before the wrong chain, none
-/// for a wrong number of chains, or, if memory is missing, of some of the first chains. The pool keeps its places,
-/// and grows only if they were too few for these clauses, to no more than they need.
+/// Returns no error only if the log is what this kind of evidence needs, and `Refused` with a kind and a step only if
+/// it isn't: its number of chains is wrong, else a chain is the first that can't be followed or has a wrong end. The
+/// step is then the number of chains, or the place of that chain, counted from 0. The pool has the miter's clauses
+/// before and after. After them it then has the ends of the chains before the last one of a right log, of those before
+/// the wrong chain, none for a wrong number of chains, or, if memory is missing, of some of the first chains. The pool
+/// keeps its places, and grows only if they were too few for these clauses, to no more than they need.
 pub fn check_log(
     alloc: Global,
     miter: &Miter,

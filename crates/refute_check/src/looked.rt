@@ -11,7 +11,7 @@ use std::alloc::{AllocError, Global};
 pub(crate) struct Looked {
     pub(crate) base: usize,
     // by the clause's number: at most `base` if the clause wasn't looked at, else `base` plus the number of literals
-    // and one
+    // and one, or the highest value, which says nothing
     pub(crate) stamps: Vec<usize>,
 }
 
@@ -58,7 +58,7 @@ impl Looked {
         self.stamps[number as usize] = self.base.saturating_add(held).saturating_add(1);
     }
 
-    /// Forgets all. At no time were more than `held` literals held.
+    /// Forgets all. No clause was looked at while more than `held` literals were held.
     pub(crate) fn forget(&mut self, held: usize)
         requires { (number at : ℕ) → IsLookedAt self.old number at → at ≤ held }
         ensures room { length self.new.stamps.items ≡ length self.old.stamps.items }

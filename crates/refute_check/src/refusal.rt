@@ -1,4 +1,4 @@
-//! Why a chain has no end.
+//! Why a chain wasn't followed to its end.
 
 ghost use Rattle.std.specs.Prelude.{◌≡◌};
 ghost use Rattle.refute_check.specs.declared.refusal.ChainFault.TheVariants as chain;
@@ -7,7 +7,7 @@ use crate::clause::NoPivot;
 use std::alloc::AllocError;
 use thiserror::Error;
 
-/// Why a chain has no end: a step can't be made, or memory is missing.
+/// Why a chain wasn't followed to its end: a step can't be made, or memory is missing.
 #[derive(Debug, Drop, Error)]
 pub enum ChainFault {
     #[error("no clause has the number")]

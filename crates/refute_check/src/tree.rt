@@ -19,10 +19,10 @@ use pair_sets::{PairSim, PairState, Token, Tree};
 use std::alloc::{AllocError, Global};
 use std::marker::Model;
 
-/// Checks the tree of evidence about two faults, with a budget of `cubes` closed leaves. Returns `Refused` with a
-/// kind and a step exactly if the tree isn't what this kind of evidence needs: a token is the first wrong one, else
-/// the tree isn't whole, else its counts are wrong. The step is the place of that token, counted from 0, or else the
-/// number of tokens.
+/// Checks the tree of evidence about two faults, with a budget of `cubes` closed leaves. Returns no error only if the
+/// tree is what this kind of evidence needs, and `Refused` with a kind and a step only if it isn't: a token is the
+/// first wrong one, else the tree isn't whole, else its counts are wrong. The step is the place of that token, counted
+/// from 0, or else the number of tokens.
 pub fn check_tree(
     alloc: Global,
     circuit: &Circuit,
@@ -41,8 +41,8 @@ pub fn check_tree(
     trees.check(f, g, tree, kind, cubes)
 }
 
-/// Checks trees of evidence about pairs of a circuit's faults, one after another. The simulation is made for the
-/// first tree that needs it and kept for later ones, so that each costs what its two faults reach.
+/// Checks trees of evidence about pairs of a circuit's faults, one after another. The simulation is made for a tree
+/// that needs it, and kept after a right one for the next, which then costs what its two faults reach.
 #[derive(Drop)]
 pub struct TreeChecker<'a> {
     alloc: Global,

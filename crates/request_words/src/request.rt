@@ -98,9 +98,9 @@ pub enum Request<'a> {
     BridgesAt(&'a str, &'a str, &'a str, u32, u32, &'a str),
 }
 
-/// Returns the request of the words: the first is a command, which reads the others. Returns `NotUnderstood` exactly if
-/// there is no word, the first is no command, that command's definition doesn't take the others, or the kind of a
-/// dictionary is none of the three.
+/// Returns the request of the words: the first is a command, which reads the others. Memory aside, returns
+/// `NotUnderstood` exactly if there is no word, the first is no command, that command's definition doesn't take the
+/// others, or the kind of a dictionary is none of the three.
 #[tactic(auto, unfolding(crate::specs::Request::request_of))]
 pub fn read_words(alloc: Global, words: &[String]) -> Result<Request<'_>, WordsFault>
     ensures asked { IfOk result (λ request. request_of (map string_bytes words.now) ≡ Some (asked request)) }

@@ -1,4 +1,4 @@
--- Laws: a file is refused in one way and only if it isn't valid, and what a valid one states is true.
+-- Laws: a file is refused in at most one way, and only if it isn't valid, and what a valid one states is true.
 use Rattle.std.specs.Prelude.{◌≡◌, ◌<◌, ◌↔◌, ℕ, List}
 use Rattle.net_model.specs.Circuit.{Circuit, IsCircuit}
 use Rattle.net_model.specs.Answer.{AreEqual}
@@ -16,7 +16,7 @@ use Rattle.result_file.specs.Meaning.{StatedResult, stated_records, stated_class
 abbrev pub RefusedFileIsWrong : Type 0
 RefusedFileIsWrong = (c : Circuit) (file : Text) (fault : ResultFault) → IsCircuit c → FileRefused c file fault → ¬ IsValidFile c file
 
--- A file is refused in one way: the rule and the line are the same.
+-- A file is refused in at most one way: the rule and the line are the same.
 abbrev pub OneFileRefusal : Type 0
 OneFileRefusal = (c : Circuit) (file : Text) (fault other : ResultFault) → IsCircuit c → FileRefused c file fault → FileRefused c file other → fault ≡ other
 

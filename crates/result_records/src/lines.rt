@@ -51,8 +51,8 @@ impl Lines {
         Ok(())
     }
 
-    /// Takes the first line out and returns it without its LF. Returns none exactly if what is held has no LF; then,
-    /// and after an error, nothing has changed.
+    /// Takes the first line out and returns it without its LF, or returns none if what is held has no LF. Then, and
+    /// after an error, nothing has changed.
     pub fn take_line(&mut self) -> Result<Option<Vec<u8>>, AllocError>
         ensures ok { IfOk result (λ taken. MatchOption taken ((¬ Contains self.old 10) × (self.new ≡ self.old)) (λ line. IsFirstLine self.old line.items self.new)) }
         ensures err { OnErr result (self.new ≡ self.old) }

@@ -14,8 +14,8 @@ use crate::words::{bits_of, mark_of};
 use std::alloc::{AllocError, Global};
 use text_fields::number_of;
 
-/// Returns the record that the line spells; the line is given without its LF. Returns `Syntax` exactly if the line is
-/// the spelling of no record.
+/// Returns the record that the line spells; the line is given without its LF. Memory aside, returns `Syntax` exactly if
+/// the line is the spelling of no record that can be written.
 pub fn read_record(alloc: Global, line: &[u8]) -> Result<Record, RecordFault>
     ensures read { IfOk result (λ r. HasSpelling r × (spelling r ≡ line.now)) }
     ensures refused { IsErrOf result record_fault.Syntax → IsNoSpelling line.now }

@@ -132,7 +132,7 @@ impl Descent<'_, '_> {
     }
 
     // Returns the groups of `part` cut by the patterns in `first..end`, which fit a word. Groups with no pair that
-    // counts are left out.
+    // counts may be left out.
     fn cut_by(
         &self,
         alloc: Global,

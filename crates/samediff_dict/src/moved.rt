@@ -21,7 +21,7 @@ pub(crate) struct Move<'a> {
 }
 
 impl PlaceGroups {
-    // Returns, ascending, the places of each group that has both a place that is moved and one that isn't.
+    // Returns places, ascending, among them all of each group that has both a place that is moved and one that isn't.
     fn mixed(
         &self,
         alloc: Global,
@@ -38,7 +38,8 @@ impl PlaceGroups {
         self.two_sided(alloc, sides.as_slice())
     }
 
-    // Marks for each group whether it has a place that is moved, and whether it has one that isn't.
+    // Returns two marks for each group: the first is set if it has a place that is moved, the second if it has one that
+    // isn't.
     fn sides(
         &self,
         alloc: Global,
@@ -78,7 +79,7 @@ impl PlaceGroups {
 }
 
 impl Partition {
-    /// Returns the groups that have both a class that is moved and one that isn't.
+    /// Returns groups with only pairs of these, among them each pair of a class that is moved and one that isn't.
     pub(crate) fn mixed(&self, alloc: Global, step: Move) -> Result<Partition, AllocError>
         requires few { length step.numbers.now < 2 ^ 32 }
         requires listed { IsListed (length step.numbers.now) self.now }

@@ -2,12 +2,12 @@
 
 ghost use Rattle.sim_listing.specs.Laws.{OneTextEach, BlocksMakeTheList};
 
-/// Each list of vectors has exactly one text.
+/// Each list of vectors has exactly one text for a circuit and the number of its first vector.
 pub fn one_text_each()
     ensures { OneTextEach }
 {}
 
-/// The texts of blocks, one after another, are the text of the whole list.
+/// The texts of two blocks, the second numbered on from the first, are one after the other the text of both.
 pub fn blocks_make_the_list()
     ensures { BlocksMakeTheList }
 {}

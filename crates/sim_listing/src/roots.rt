@@ -8,15 +8,15 @@ ghost use Rattle.sim_listing.specs.RootPlaces.{AreOwnPlaces, AreRootPlaces};
 use fault_collapse::{Forest, Subject};
 use std::alloc::{AllocError, Global};
 
-/// The numbers that are their own roots, ascending, and for each number the place of its root among them.
+/// Roots of fault numbers, and for each number the place of its root among them.
 #[derive(Drop)]
 pub struct RootPlaces {
     pub roots: Vec<u32>,
     pub places: Vec<u32>,
 }
 
-/// Returns the roots of a circuit's faults, and for each fault number the place of its root. Of the faults that
-/// collapse into one, only the root is simulated.
+/// Returns roots of a circuit's faults, and for each fault number the place of a root that is equal to it. Of the
+/// faults that collapse into one, only the root is simulated.
 pub fn root_places(alloc: Global, subject: &Subject) -> Result<RootPlaces, AllocError>
     ensures { IfOk result (λ found. AreEqualRoots subject.now found.roots.items found.places.items) }
 {
@@ -35,7 +35,7 @@ fn forest_places(alloc: Global, forest: &Forest) -> Result<RootPlaces, AllocErro
     Ok(RootPlaces { roots, places })
 }
 
-// Returns the numbers that are their own roots, and their places. A number that isn't has the place of the next root.
+// Returns numbers, the roots, and for each number that is its own root its place among them.
 fn own_roots(alloc: Global, all: &[u32]) -> Result<RootPlaces, AllocError>
     requires { length all.now < 2 ^ 32 }
     ensures { IfOk result (λ found. AreOwnPlaces all.now (length all.now) found.roots.items found.places.items) }

@@ -18,7 +18,7 @@ pub struct LogColumns {
     pub wrong: AnswerRows,
     /// Where an observed bit doesn't differ.
     pub right: AnswerRows,
-    /// The positions that are wrong in some line, ascending.
+    /// Positions, ascending, among them each that is wrong in some line.
     pub wrong_positions: Vec<u32>,
 }
 
@@ -73,7 +73,7 @@ fn transpose(rows: &AnswerRows, columns: &mut AnswerRows, lines: usize, position
     }
 }
 
-// Returns, ascending, the positions whose row has a bit that is set.
+// Returns positions, ascending, among them each whose row has a bit that is set.
 fn wrong_positions(
     alloc: Global,
     wrong: &AnswerRows,

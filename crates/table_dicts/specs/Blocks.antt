@@ -19,7 +19,8 @@ pub record IsPatternSim (c : Circuit) (b : PatternSim) : Type 0 where
   pub good : b.good.circuit ≡ c
   pub sim : b.sim.circuit ≡ c
 
--- The pattern simulator is that of its circuit and has run the patterns of its block, at most as many as there are lanes.
+-- The pattern simulator is that of its circuit and has run the patterns of its block, at most as many as there are
+-- lanes.
 pub record HasRunPatterns (b : PatternSim) : Type 0 where
   pub pattern_sim : IsPatternSim b.good.circuit b
   pub ran : b.good.ran ≡ Some b.block.vectors

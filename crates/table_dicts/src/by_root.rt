@@ -6,8 +6,7 @@ ghost use Rattle.table_dicts.specs.ByRoot.{AreGroupsByRoot};
 use dict_rows::Sorted;
 use std::alloc::{AllocError, Global};
 
-/// Returns a group for each root. Groups are numbered in the order of the lowest numbers with the roots, which are the
-/// firsts.
+/// Returns groups of the numbers. Each number has the root of the first number of its group.
 pub(crate) fn root_groups(alloc: Global, roots: &[u32]) -> Result<Sorted, AllocError>
     requires inside { All (λ root. root < length roots.now) roots.now }
     requires few { length roots.now < 2 ^ 32 }

@@ -36,7 +36,7 @@ impl Drop for PatternSim<'_> {
 }
 
 impl<'a> PatternSim<'a> {
-    /// Returns a simulator of the circuit of `subject`. No pattern has been run.
+    /// Returns a simulator of the circuit of `subject`.
     pub fn new(alloc: Global, subject: &'a Subject<'a>) -> Result<PatternSim<'a>, AllocError>
         ensures pattern_sim { IfOk result (λ pattern_sim. IsPatternSim pattern_sim.good.circuit pattern_sim) }
         ensures circuit { IfOk result (λ pattern_sim. pattern_sim.good.circuit ≡ subject.now) }
