@@ -115,7 +115,7 @@ class FailList:
         if strange is not None:
             raise ValueError(f"{place}: a heading has the columns `pattern`, `pin` or `position`, and maybe `observed`{self.mend(strange, columns)}")
         if len(set(columns)) < len(columns):
-            raise ValueError(f"{place}: a column stands there twice")
+            raise ValueError(f"{place}: a column is there twice")
         if "pattern" not in columns:
             raise ValueError(f"{place}: the heading has no column `pattern`")
         if ("pin" in columns) == ("position" in columns):

@@ -43,7 +43,7 @@ class Pins:
                 raise ValueError(f"{place}: a line of a map is the tester's name, a comma and the netlist's, as `so1:0,q7`")
             theirs, ours = fields
             if theirs in lines:
-                raise ValueError(f"{place}: {named(theirs)} stands in line {lines[theirs]} already")
+                raise ValueError(f"{place}: {named(theirs)} is in line {lines[theirs]} already")
             lines[theirs] = line
             self.mapped[theirs] = self.own(ours, place)
 
@@ -60,7 +60,7 @@ class Pins:
     def hint(self, pin: str) -> str:
         """What a pin may be if it is no position."""
         if pin in self.netlist.kinds:
-            return ": it is an input, of which nothing is observed"
+            return ": it is an input, and isn't observed"
         cell = next((name for (kind, name), line in zip(self.netlist.positions, self.netlist.shown) if kind == "cell" and line == pin), None)
         return f": it is the line that the scan cell {cell} reads" if cell else near(pin, [name for _, name in self.netlist.positions])
 

@@ -95,6 +95,6 @@ def numbers_of(name: str, last: int) -> List[int]:
             if not 0 < number <= last:
                 raise ValueError(f"{at_line(name, line)}: {named(word[0])} is no fault number: they are 1 to {last}")
             if number in found:
-                raise ValueError(f"{at_line(name, line)}: {number} stands in line {found[number]} already")
+                raise ValueError(f"{at_line(name, line)}: {number} is in line {found[number]} already")
             found[number] = line
     return sorted(found)

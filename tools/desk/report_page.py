@@ -30,7 +30,7 @@ BRIDGES = (
     "listed that closes a loop."
 )
 CLASSES = (
-    " A row stands for a class, the faults that no pattern of the result tells apart, and has the number of its lowest fault. Pins are counted "
+    " A row is a class, the faults that no pattern of the result tells apart, and has the number of its lowest fault. Pins are counted "
     "from 0. By the gates, by a tree and by a refutation say how a fault was shown to be equal to the lowest, so that no vector tells the two "
     'apart. <span class="open">Open</span>: the fault may differ from the lowest, since a budget ended before that was settled.'
 )
@@ -87,8 +87,8 @@ def about(case: Case, made: str) -> str:
     circuit = [count(len(netlist.sources), "source"), count(len(netlist.positions), "position"), count(len(netlist.gates), "gate")]
     circuit += [count(scan, "scan cell"), count(len(case.patterns), "pattern")]
     rows = [("Circuit", escape(", ".join(circuit)))]
-    for kind, name in case.files.items():
-        rows.append((kind.capitalize(), f'{escape(name)}<br><span class="name sum">SHA-256 {case.checksums[kind]}</span>'))
+    for role, name in case.files.items():
+        rows.append((role.capitalize(), f'{escape(name)}<br><span class="name sum">SHA-256 {case.checksums[role]}</span>'))
     rows += [("Valid", escape(", ".join(f"{kind} {number:,}" for kind, number in case.counts().items())))]
     rows += [*coverage(case), ("Made", escape(made))]
     body = "\n".join(f"<tr><th>{kind}</th><td>{text}</td></tr>" for kind, text in rows)

@@ -160,7 +160,7 @@ COMMANDS = {
 
 
 HELPERS = {
-    "report": Helper("NETLIST RESULT LOG [--applied VECTORS] [-o FILE.html]", "writes a page that says what a tester's log comes to"),
+    "report": Helper("NETLIST RESULT LOG [--applied VECTORS] [-o FILE.html]", "writes a page that says what a tester's log points to"),
     "volume": Helper(
         "NETLIST RESULT LOG .. [--applied LIST] [-o FOLDER] [--jobs N] [--sshlogin HOSTS]",
         "diagnoses the chips of a lot, each by its log, and writes one page on all of them, with tables",
@@ -169,7 +169,7 @@ HELPERS = {
     "where": Helper("NETLIST RESULT NUMBER ..", "says what is known of a fault: its place, its class, and where it shows"),
     "faillog": Helper(
         "NETLIST EXPECTED DATALOG [--map FILE] [--first N] [--last N] [--limit N | --pin-limit N]",
-        "prints the log that a tester's list of failing bits comes to",
+        "prints the log that a tester's list of failing bits gives",
     ),
     "coverage": Helper(
         "NETLIST RESULT [--applied LIST] [--json | --faults | --curve] [--only FILE] [--svg FILE]",

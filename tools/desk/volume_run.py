@@ -80,7 +80,7 @@ def ready(netlist: str, result: str, applied: Optional[str], logs: List[str], fo
     its_program = program()
     once = list(dict.fromkeys(logs))
     if len(once) < len(logs):
-        tell(f"{len(logs) - len(once)} of the words for logs stand there twice, and count once")
+        tell(f"logs that are named twice, and count once: {len(logs) - len(once)}")
     lot = Lot(folder, netlist, result, applied, once, {})
     accept(lot)
     begin_folder(folder, [*lot.files().values(), *once])
