@@ -1,5 +1,6 @@
 -- Logs of a walk: a line for each answer, with the pattern that is asked and the observed bits.
 use Rattle.std.specs.Prelude.{◌≡◌, ◌≢◌, ℕ, ◌+◌, ◌<◌, ◌≤◌, Bool, List, [], ◌∷◌, ◌++◌, map, flat_map, length, take, slice_index_or}
+use Rattle.net_model.specs.Ascii.{line_feed}
 use Rattle.diagnose.specs.declared.fault.LogKind.{LogKind}
 use Rattle.diagnose.specs.declared.fault.LogKind.TheVariants.{Syntax, Order, Width, TooLong}
 use Rattle.text_fields.specs.Fields.{Text}
@@ -17,7 +18,7 @@ pub record Answer : Type 0 where
   pub bits : List Bool
 
 abbrev pub walk_text : List Answer → Text
-walk_text answers = flat_map (λ answer. log_line answer.pattern answer.bits ++ 10 ∷ []) answers
+walk_text answers = flat_map (λ answer. log_line answer.pattern answer.bits ++ line_feed ∷ []) answers
 
 -- where answers lead from a node
 abbrev pub outcome_after : PlanNode → List Answer → Outcome

@@ -1,5 +1,6 @@
 -- The lines of a plan as a reader holds them: an answer is held as the digits of its line.
 use Rattle.std.specs.Prelude.{◌≡◌, ℕ, ◌∷◌, ◌++◌, codes, decimal, ⊤}
+use Rattle.net_model.specs.Ascii.{space}
 use Rattle.text_fields.specs.Fields.{Text, IsNumber, digit_bits, AreDigitsOf}
 use Rattle.adaptive_tree.specs.declared.line.Form.{Form}
 use Rattle.adaptive_tree.specs.declared.line.Form.TheVariants as form
@@ -40,11 +41,11 @@ IsNoPlanLine text = (line : PlanLine) → HasPlanSpelling line → plan_line lin
 -- ---- numbers one after another
 
 abbrev pub pair_text : ℕ → ℕ → Text
-pair_text m n = decimal m ++ 32 ∷ decimal n
+pair_text m n = decimal m ++ space ∷ decimal n
 
 -- the version and the sizes of a plan
 abbrev pub sizes_text : ℕ → ℕ → ℕ → Text
-sizes_text positions patterns classes = codes "1" ++ 32 ∷ (decimal positions ++ 32 ∷ pair_text patterns classes)
+sizes_text positions patterns classes = codes "1" ++ space ∷ (decimal positions ++ space ∷ pair_text patterns classes)
 
 pub record IsPairIn (text : Text) (m n : ℕ) : Type 0 where
   pub first : IsNumber m

@@ -1,6 +1,7 @@
 -- How a plan is written: a line for its sizes, one for each step, and the end.
 use Rattle.std.specs.Prelude.{ℕ, List, [], ◌∷◌, ◌++◌, map, flat_map, codes, decimal, ⊤}
 use Rattle.std.specs.List.{join_with_byte}
+use Rattle.net_model.specs.Ascii.{line_feed, space}
 use Rattle.net_model.specs.BitText.{bits_text}
 use Rattle.text_fields.specs.Fields.{IsNumber, Text}
 use Rattle.adaptive_tree.specs.declared.steps.Step.{Step}
@@ -23,11 +24,11 @@ plan_line_fields (step s) = plan_step_fields s
 plan_line_fields end = codes "end" ∷ []
 
 unfoldable pub plan_line : PlanLine → Text
-plan_line line = join_with_byte 32 (plan_line_fields line)
+plan_line line = join_with_byte space (plan_line_fields line)
 
 -- the text of lines, each with its LF
 abbrev pub plan_lines_text : List PlanLine → Text
-plan_lines_text lines = flat_map (λ line. plan_line line ++ 10 ∷ []) lines
+plan_lines_text lines = flat_map (λ line. plan_line line ++ line_feed ∷ []) lines
 
 abbrev pub plan_lines : Plan → List PlanLine
 plan_lines plan = head plan.positions plan.patterns plan.classes ∷ (map step plan.steps ++ end ∷ [])

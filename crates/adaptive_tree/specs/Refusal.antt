@@ -1,5 +1,6 @@
 -- Which line of a text is refused if the text isn't that of a plan, and for which rule.
 use Rattle.std.specs.Prelude.{◌≡◌, ◌≢◌, ℕ, ◌+◌, ◌<◌, ◌≤◌, List, [], ◌∷◌, ◌++◌, length, ⊤}
+use Rattle.net_model.specs.Ascii.{line_feed}
 use Rattle.text_fields.specs.Fields.{Text}
 use Rattle.diagnose.specs.Lines.{text_limit, line_number}
 use Rattle.adaptive_tree.specs.declared.fault.PlanKind.{PlanKind}
@@ -13,7 +14,7 @@ use Rattle.adaptive_tree.specs.WellFormed.{BeginPlan, IsRightPlanLine, AreRightP
 
 -- The text begins with this line, which can be written, and `more` is the text after it.
 abbrev pub BeginsWithPlanLine : Text → PlanLine → Text → Type 0
-BeginsWithPlanLine text line more = HasPlanSpelling line × (text ≡ plan_line line ++ 10 ∷ more)
+BeginsWithPlanLine text line more = HasPlanSpelling line × (text ≡ plan_line line ++ line_feed ∷ more)
 
 -- The text begins with no line of a plan.
 abbrev pub HasNoPlanLine : Text → Type 0

@@ -1,6 +1,7 @@
 //! What the lines of a plan say.
 
 ghost use Rattle.std.specs.Prelude.{◌≡◌, ◌∷◌, ◌++◌, ℕ, Contains, MatchOption, codes};
+ghost use Rattle.net_model.specs.Ascii.{space};
 ghost use Rattle.text_fields.specs.Fields.{IsNumber};
 ghost use Rattle.adaptive_tree.specs.Refusal.{HasNoPlanLine};
 ghost use Rattle.adaptive_tree.specs.Forms.{IsFormOf, IsFirstForm, IsNoPlanLine, IsPairIn, pair_text};
@@ -46,8 +47,8 @@ fn form_of(line: &[u8]) -> Option<Form<'_>>
 
 // Returns what the line with this first word and these fields says if it is one of a plan.
 fn form_with<'a>(word: &[u8], fields: &'a [u8]) -> Option<Form<'a>>
-    requires { ¬ Contains word.now 32 }
-    ensures { MatchOption result (IsNoPlanLine (word.now ++ 32 ∷ fields.now)) (IsFormOf (word.now ++ 32 ∷ fields.now)) }
+    requires { ¬ Contains word.now space }
+    ensures { MatchOption result (IsNoPlanLine (word.now ++ space ∷ fields.now)) (IsFormOf (word.now ++ space ∷ fields.now)) }
 {
     if word == b"on".as_slice() {
         return branch_of(fields);
@@ -66,7 +67,7 @@ fn form_with<'a>(word: &[u8], fields: &'a [u8]) -> Option<Form<'a>>
 
 // Returns what the fields of the first line say, which has the sizes.
 fn head_of(fields: &[u8]) -> Option<Form<'_>>
-    ensures { MatchOption result (IsNoPlanLine (codes "adapt" ++ 32 ∷ fields.now)) (IsFormOf (codes "adapt" ++ 32 ∷ fields.now)) }
+    ensures { MatchOption result (IsNoPlanLine (codes "adapt" ++ space ∷ fields.now)) (IsFormOf (codes "adapt" ++ space ∷ fields.now)) }
 {
     let (version, sizes) = cut(fields, b' ')?;
     if version != b"1".as_slice() {
@@ -79,21 +80,21 @@ fn head_of(fields: &[u8]) -> Option<Form<'_>>
 }
 
 fn ask_of(fields: &[u8]) -> Option<Form<'_>>
-    ensures { MatchOption result (IsNoPlanLine (codes "ask" ++ 32 ∷ fields.now)) (IsFormOf (codes "ask" ++ 32 ∷ fields.now)) }
+    ensures { MatchOption result (IsNoPlanLine (codes "ask" ++ space ∷ fields.now)) (IsFormOf (codes "ask" ++ space ∷ fields.now)) }
 {
     let (pattern, branches) = pair_of(fields)?;
     Some(Form::Ask(pattern, branches))
 }
 
 fn branch_of(field: &[u8]) -> Option<Form<'_>>
-    ensures { MatchOption result (IsNoPlanLine (codes "on" ++ 32 ∷ field.now)) (IsFormOf (codes "on" ++ 32 ∷ field.now)) }
+    ensures { MatchOption result (IsNoPlanLine (codes "on" ++ space ∷ field.now)) (IsFormOf (codes "on" ++ space ∷ field.now)) }
 {
     let digits = digits_of(field)?;
     Some(Form::On(digits))
 }
 
 fn class_of(field: &[u8]) -> Option<Form<'_>>
-    ensures { MatchOption result (IsNoPlanLine (codes "class" ++ 32 ∷ field.now)) (IsFormOf (codes "class" ++ 32 ∷ field.now)) }
+    ensures { MatchOption result (IsNoPlanLine (codes "class" ++ space ∷ field.now)) (IsFormOf (codes "class" ++ space ∷ field.now)) }
 {
     let class = number_of_bytes(field)?;
     Some(Form::Class(class))

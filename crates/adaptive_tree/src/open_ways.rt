@@ -9,7 +9,7 @@ use std::alloc::{AllocError, Global};
 
 /// For each open ask, the innermost last, the number of its branches that aren't whole; and the greatest number of asks
 /// that were open at once.
-#[derive(Drop)]
+#[derive(Debug, Drop)]
 pub(crate) struct OpenWays {
     pub(crate) left: Vec<u32>,
     pub(crate) most: u64,

@@ -10,7 +10,7 @@ use std::marker::Model;
 
 /// A step of a plan: `Ask(pattern, branches)` asks a pattern, and that number of branches follows; `On(answer)` begins
 /// the branch for an answer, whose node follows; `Class(class)` reaches a class.
-#[derive(Drop)]
+#[derive(Debug, Drop)]
 pub enum Step {
     Ask(u32, u32),
     On(PackedBits),
@@ -18,7 +18,7 @@ pub enum Step {
 }
 
 /// A list of steps.
-#[derive(Drop)]
+#[derive(Debug, Drop)]
 pub struct Steps {
     steps: Vec<Step>,
     // With these the depth of a plan is known without taking memory.
@@ -84,7 +84,7 @@ impl Steps {
 }
 
 /// A plan for `classes` classes, by answers of `positions` bits each to some of `patterns` patterns.
-#[derive(Drop)]
+#[derive(Debug, Drop)]
 pub struct Plan {
     pub positions: u32,
     pub patterns: u32,

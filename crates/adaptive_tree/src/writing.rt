@@ -2,6 +2,7 @@
 
 ghost use Rattle.std.specs.Prelude.{◌≡◌, ◌++◌, ◌∷◌, [], flat_map, IfOk, OnOk};
 ghost use Rattle.std.specs.String.{string_bytes};
+ghost use Rattle.net_model.specs.Ascii.{line_feed};
 ghost use Rattle.adaptive_tree.specs.declared.steps.Step.TheVariants.{On};
 ghost use Rattle.adaptive_tree.specs.PlanText.{head, step, end, plan_line, plan_lines_text, plan_text};
 ghost use Rattle.adaptive_tree.specs.WellFormed.{IsWellFormed};
@@ -36,7 +37,7 @@ fn push_head(
 }
 
 fn push_steps(text: &mut String, steps: &[Step]) -> Result<(), AllocError>
-    ensures { OnOk result (string_bytes text.new ≡ string_bytes text.old ++ flat_map (λ s. plan_line (step s) ++ 10 ∷ []) steps.now) }
+    ensures { OnOk result (string_bytes text.new ≡ string_bytes text.old ++ flat_map (λ s. plan_line (step s) ++ line_feed ∷ []) steps.now) }
 {
     for s in steps {
         push_step(text, s)?;
@@ -46,7 +47,7 @@ fn push_steps(text: &mut String, steps: &[Step]) -> Result<(), AllocError>
 
 #[tactic(auto, unfolding(crate::specs::PlanText::plan_line))]
 fn push_step(text: &mut String, s: &Step) -> Result<(), AllocError>
-    ensures { OnOk result (string_bytes text.new ≡ string_bytes text.old ++ plan_line (step s.now) ++ 10 ∷ []) }
+    ensures { OnOk result (string_bytes text.new ≡ string_bytes text.old ++ plan_line (step s.now) ++ line_feed ∷ []) }
 {
     match s {
         Step::Ask(pattern, branches) => writeln!(text, "ask {pattern} {branches}"),
@@ -57,7 +58,7 @@ fn push_step(text: &mut String, s: &Step) -> Result<(), AllocError>
 
 #[tactic(auto, unfolding(crate::specs::PlanText::plan_line))]
 fn push_branch(text: &mut String, answer: &PackedBits) -> Result<(), AllocError>
-    ensures { OnOk result (string_bytes text.new ≡ string_bytes text.old ++ plan_line (step (On answer.now)) ++ 10 ∷ []) }
+    ensures { OnOk result (string_bytes text.new ≡ string_bytes text.old ++ plan_line (step (On answer.now)) ++ line_feed ∷ []) }
 {
     text.push_str("on ")?;
     push_bits(text, answer.len(), |at| answer.get(at))?;

@@ -10,7 +10,7 @@ use std::alloc::{AllocError, Global};
 const UNNUMBERED: u32 = u32::MAX;
 
 /// The number of each node, and how many nodes of each lane have one.
-#[derive(Drop)]
+#[derive(Debug, Drop)]
 pub(crate) struct NodeNumbers {
     pub(crate) numbers: Vec<u32>,
     pub(crate) counts: Vec<u32>,

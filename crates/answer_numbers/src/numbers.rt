@@ -27,6 +27,7 @@ use word_sim::{Block, GoodSim, Lanes};
 /// In each lane equal answers have one number. The numbers go up from 0, in order of the lowest place among the leads
 /// that gives each answer. If the first lead is fault number 0, the fault-free circuit, then answer number 0 is the
 /// fault-free one.
+#[derive(Debug)]
 pub struct AnswerNumbers<'a> {
     faults: &'a FaultList,
     leads: &'a [u32],
@@ -36,7 +37,7 @@ pub struct AnswerNumbers<'a> {
 }
 
 // The lanes in which each place differs from the fault-free answer, its node in each lane, and the number of each node.
-#[derive(Drop)]
+#[derive(Debug, Drop)]
 pub(crate) struct Numbered {
     pub(crate) differing: Vec<Lanes>,
     pub(crate) trees: LaneTrees,

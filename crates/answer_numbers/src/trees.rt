@@ -10,7 +10,7 @@ use packed_bits::PackedBits;
 use std::alloc::{AllocError, Global};
 
 /// A node of a tree.
-#[derive(Clone, Copy)]
+#[derive(Clone, Copy, Debug)]
 pub(crate) struct Node {
     /// The node above, and the position at which the answer of this node differs from the answer of the node above.
     pub(crate) above: u32,
@@ -23,7 +23,7 @@ pub(crate) struct Node {
 /// For each lane a tree. Its root is the fault-free answer and has the lane's number. The way down to a node has the
 /// positions at which the answer of this node differs from the fault-free one, ascending. `stands` has the node at
 /// which each place is in each lane's tree, by place and then by lane.
-#[derive(Drop)]
+#[derive(Debug, Drop)]
 pub(crate) struct LaneTrees {
     pub(crate) lanes: u32,
     pub(crate) nodes: Vec<Node>,

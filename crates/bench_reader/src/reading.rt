@@ -1,5 +1,6 @@
 //! `read`: the statements of a netlist's text, or the first rule that it breaks.
 ghost use Rattle.std.specs.Prelude.{◌≡◌, ◌<◌, None, IfOk, OnOk, IfErr, count_by, ◌==◌, length};
+ghost use Rattle.net_model.specs.Ascii.{line_feed};
 ghost use Rattle.text_fields.specs.Fields.{Text};
 ghost use Rattle.bench_reader.specs.Drivers.{driver_fault, AreNumbered};
 ghost use Rattle.bench_reader.specs.Parsed.{IsParsed};
@@ -69,7 +70,7 @@ fn limit_place(bytes: &[u8]) -> Place
 
 // Returns the number of bytes that are LF.
 fn feeds(bytes: &[u8]) -> usize
-    ensures { result ≡ count_by (λ b. b == 10) bytes.now }
+    ensures { result ≡ count_by (λ b. b == line_feed) bytes.now }
 {
     bytes.iter().filter(|byte| **byte == b'\n').count()
 }

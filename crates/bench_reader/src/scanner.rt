@@ -1,6 +1,7 @@
 //! Tokens, one after another, each with its place.
 ghost use Rattle.std.specs.Prelude.{◌≡◌, ◌+◌, ◌≤◌, ◌<◌, ◌^◌, ◌&&◌, ◌||◌, ◌==◌, length, if◌then◌else◌};
 ghost use Rattle.std.specs.List.{prefix_len};
+ghost use Rattle.net_model.specs.Ascii.{line_feed};
 ghost use Rattle.bench_reader.specs.Tokens.{is_blank, is_name_byte};
 ghost use Rattle.bench_reader.specs.Scanning.{IsPlace, text_in, IsLexeme, IsNext};
 ghost use Rattle.bench_reader.specs.Bytes.{kind_at, length_at, is_skipped, inside_behind, IsSkipped};
@@ -136,7 +137,7 @@ fn place_behind(place: Place, byte: u8) -> Place
     requires byte { place.byte < 2 ^ 31 }
     requires line { place.line ≤ 2 ^ 31 }
     ensures byte { result.byte ≡ place.byte + 1 }
-    ensures line { result.line ≡ place.line + (if byte == 10 then 1 else 0) }
+    ensures line { result.line ≡ place.line + (if byte == line_feed then 1 else 0) }
 {
     Place {
         byte: place.byte + 1,

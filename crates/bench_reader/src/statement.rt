@@ -9,13 +9,14 @@ use std::alloc::{AllocError, Global};
 use std::marker::Model;
 
 /// A name, as its number, and the place where it is written.
-#[derive(Clone, Copy, Default)]
+#[derive(Clone, Copy, Debug, Default)]
 pub struct Word {
     pub name: u32,
     pub place: Place,
 }
 
 /// A list of words.
+#[derive(Debug)]
 pub struct Words {
     words: SmallVec<Word, 4>,
 }
@@ -60,7 +61,7 @@ impl Drop for Words {
 
 /// An input; an observed name; a gate, with the name that it drives and its pins; or a flip-flop, with its output and
 /// its data pin.
-#[derive(Drop)]
+#[derive(Debug, Drop)]
 pub enum Statement {
     Input(Word),
     Output(Word),
@@ -69,6 +70,7 @@ pub enum Statement {
 }
 
 /// The statements of a netlist, and its names by number.
+#[derive(Debug)]
 pub struct Statements {
     pub(crate) statements: Vec<Statement>,
     pub(crate) names: Vec<Vec<u8>>,

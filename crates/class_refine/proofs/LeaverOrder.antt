@@ -21,10 +21,10 @@ no_leaver = record { number = 0; start = 0; end = 0 }
 abbrev pub numbers_of : List Leaver → List ℕ
 numbers_of leavers = map (λ leaver. leaver.number) leavers
 
-module _ (t : ClassTable) (row : List (List Bool)) where
-  never_both : (x y : ℕ) → ComesBefore t x y → ComesBefore t y x → ⊥
-  never_both x y one other = grind (arith, one, other)
+pub never_both : (t : ClassTable) (x y : ℕ) → ComesBefore t x y → ComesBefore t y x → ⊥
+never_both t x y one other = grind (arith, one, other)
 
+module _ (t : ClassTable) (row : List (List Bool)) where
   begins_leave : (n : ℕ) → Begins t row n → LeavesClass t row n
   begins_leave n b =
       let lead = lead_is t row n b.inside in
@@ -68,7 +68,7 @@ module _ (t : ClassTable) (row : List (List Bool)) where
     module _ (are : AreNumbers ns) where
       all_begin : IsSound t → filter (begins_class t row) ns ≡ new_lowest t row
       all_begin sound =
-          same_ordered (ComesBefore t) never_both (filter (begins_class t row) ns) (new_lowest t row) (AllPairs-filter (ComesBefore t) (begins_class t row) ns are.ordered) (new_lowest_ordered t row)
+          same_ordered (ComesBefore t) (never_both t) (filter (begins_class t row) ns) (new_lowest t row) (AllPairs-filter (ComesBefore t) (begins_class t row) ns are.ordered) (new_lowest_ordered t row)
           (λ x has.
           let parts = Contains-from_filter (begins_class t row) ns x has in
           let inside = (All-contains (LeavesClass t row) ns x are.only parts.0).below in
@@ -82,7 +82,7 @@ module _ (t : ClassTable) (row : List (List Bool)) where
       piece_numbers low b =
           let p : ℕ → Bool = λ n. eqb (piece_lowest t row n) low in
           let all = members t (class_at t low) in
-          same_ordered (ComesBefore t) never_both (filter p ns) (filter p all) (AllPairs-filter (ComesBefore t) p ns are.ordered)
+          same_ordered (ComesBefore t) (never_both t) (filter p ns) (filter p all) (AllPairs-filter (ComesBefore t) p ns are.ordered)
           (AllPairs-filter (ComesBefore t) p all (λ i j d l h. inr ((members-All t (class_at t low) i d (omega (arith, l, h))).1 ∙ sym (members-All t (class_at t low) j d h).1, members_ascend t (class_at t low) i j d l h)))
           (λ x has.
           let parts = Contains-from_filter p ns x has in

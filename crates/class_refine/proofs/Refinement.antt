@@ -9,6 +9,7 @@ use Rattle.net_model.proofs.Elements.{true_false, Contains-map}
 use Rattle.net_model.proofs.Orders.{Contains-range}
 use Rattle.class_refine.specs.Fields.{IsWhole}
 use Rattle.class_refine.specs.Laws.{ComesBefore, IsRefinement}
+use Rattle.class_refine.proofs.LeaverOrder.{never_both}
 use Rattle.class_refine.proofs.Ranges.{same_ordered}
 use Rattle.class_refine.proofs.Pieces.{IsSound, representative_lowest, stays, staying, piece_is, new_lowest-All, new_lowest_ordered, after_cases, moved_from, lowest_moves, lead_stays}
 use Rattle.class_refine.proofs.Refined.{sound_from, representative-member, numbers-refined, count-refined, class-refined, patterns-refined, birth_old, birth_new, after_same, same_after, class_old}
@@ -133,9 +134,6 @@ module _ (t : ClassTable) (row : List (List Bool)) (w : IsWhole t) where
 -- ---- and no other table is
 
 module _ (t : ClassTable) (row : List (List Bool)) (w : IsWhole t) where
-  never_both : (x y : ℕ) → ComesBefore t x y → ComesBefore t y x → ⊥
-  never_both x y one other = grind (arith, one, other)
-
   -- a number that answers otherwise than the lowest member of its class, as no lower one of the class does
   record BeginsNew (n : ℕ) : Type 0 where
     inside : n < length t.class_of
@@ -203,7 +201,7 @@ module _ (t : ClassTable) (row : List (List Bool)) (w : IsWhole t) where
   module _ (u v : ClassTable) (one : IsRefinement t row u) (other : IsRefinement t row v) where
     same_leads : leads_of u one ≡ leads_of v other
     same_leads =
-        same_ordered (ComesBefore t) never_both (leads_of u one) (leads_of v other) (leads_ordered u one) (leads_ordered v other) (λ x has. leads-contains v other x (begins_new u one x has)) (λ x has. leads-contains u one x (begins_new v other x has))
+        same_ordered (ComesBefore t) (never_both t) (leads_of u one) (leads_of v other) (leads_ordered u one) (leads_ordered v other) (λ x has. leads-contains v other x (begins_new u one x has)) (λ x has. leads-contains u one x (begins_new v other x has))
 
     same_count : class_count u ≡ class_count v
     same_count = omega (arith, ap length same_leads, leads-length u one, leads-length v other, count_is u one, count_is v other)

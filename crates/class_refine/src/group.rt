@@ -8,7 +8,7 @@ use std::alloc::{AllocError, Global};
 use std::marker::Model;
 
 /// Some of the numbers, ascending.
-#[derive(Drop)]
+#[derive(Debug, Drop)]
 pub(crate) struct Group {
     numbers: Vec<u32>,
 }

@@ -4,7 +4,7 @@ ghost use Rattle.std.specs.Prelude.{◌≡◌, ◌≤◌, length};
 ghost use Rattle.class_refine.specs.Leavers.{told};
 
 /// A number that leaves its class. The part of a list of positions from `start` to before `end` tells its answer.
-#[derive(Clone, Copy)]
+#[derive(Clone, Copy, Debug)]
 pub struct Leaver {
     pub number: u32,
     pub start: usize,

@@ -15,7 +15,7 @@ use thiserror::Error;
 pub struct Full;
 
 /// How many clauses and literals a pool had.
-#[derive(Clone, Copy)]
+#[derive(Clone, Copy, Debug)]
 pub struct Mark {
     pub clauses: usize,
     pub literals: usize,
@@ -24,7 +24,7 @@ pub struct Mark {
 /// Clauses in one region of literals, with room for more of both.
 ///
 /// Clauses are numbered from 1, in the order in which they were pushed.
-#[derive(Drop)]
+#[derive(Debug, Drop)]
 pub struct Pool {
     ends: Vec<usize>,
     literals: Vec<Lit>,

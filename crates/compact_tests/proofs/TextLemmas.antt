@@ -11,7 +11,7 @@ use Rattle.result_records.specs.declared.record.Evidence.{Evidence}
 use Rattle.result_records.specs.declared.record.Record.{Record}
 use Rattle.result_records.specs.declared.record.Record.TheVariants.{Pattern, Same, End}
 use Rattle.text_fields.specs.Fields.{Text}
-use Rattle.result_records.specs.Spelling.{spelling, text_of}
+use Rattle.result_records.specs.Spelling.{text_of}
 use Rattle.result_records.proofs.RecordLists.{text-append}
 use Rattle.compact_tests.specs.declared.lines.Span.{Span}
 use Rattle.compact_tests.specs.ThinResult.{evidence_for}
@@ -51,11 +51,12 @@ evidence_more t evidence number first {so_far} {text} before line =
     line ∙ ap (λ (bs : Text). bs ++ text_of (map Same one)) before ∙ append_assoc first (text_of (map Same (filter_map f (range_with_len 0 number)))) (text_of (map Same one)) ∙ ap (λ (bs : Text). first ++ bs) (sym lines)
 
 -- The line of one pattern more.
-pub pattern_more : (vectors : List (List Bool)) (k : ℕ) (v : List Bool) → k < length vectors → v ≡ get_or vectors k [] → {so_far text : Text} → so_far ≡ text_of (map Pattern (take k vectors)) → text ≡ so_far ++ text_of (Pattern v ∷ []) → text ≡ text_of (map Pattern (take (k + 1) vectors))
-pattern_more vectors k v h is {so_far} {text} before line =
+pub pattern_more : (vectors : List (List Bool)) (k : ℕ) (v : List Bool) → k < length vectors → v ≡ get_or vectors k [] → (first : Text) {so_far text : Text} → so_far ≡ first ++ text_of (map Pattern (take k vectors)) → text ≡ so_far ++ text_of (Pattern v ∷ []) → text ≡ first ++ text_of (map Pattern (take (k + 1) vectors))
+pattern_more vectors k v h is first {so_far} {text} before line =
     let more : take (k + 1) vectors ≡ take k vectors ++ v ∷ [] = take_more vectors k [] h ∙ ap (λ (x : List Bool). take k vectors ++ x ∷ []) (sym is) in
-    line ∙ (ap (λ (t : Text). t ++ text_of (Pattern v ∷ [])) before ∙ (sym (text-append (map Pattern (take k vectors)) (Pattern v ∷ []))
-    ∙ (ap text_of (sym (map-append Pattern (take k vectors) (v ∷ []))) ∙ ap (λ (vs : List (List Bool)). text_of (map Pattern vs)) (sym more))))
+    let lines : text_of (map Pattern (take (k + 1) vectors)) ≡ text_of (map Pattern (take k vectors)) ++ text_of (Pattern v ∷ []) =
+    ap (λ (vs : List (List Bool)). text_of (map Pattern vs)) more ∙ (ap text_of (map-append Pattern (take k vectors) (v ∷ [])) ∙ text-append (map Pattern (take k vectors)) (Pattern v ∷ [])) in
+    line ∙ ap (λ (t : Text). t ++ text_of (Pattern v ∷ [])) before ∙ append_assoc first (text_of (map Pattern (take k vectors))) (text_of (Pattern v ∷ [])) ∙ ap (λ (t : Text). first ++ t) (sym lines)
 
 -- ---- the whole text
 
@@ -64,12 +65,8 @@ text_parts front evidence classes members end =
     ap text_of (ap (λ (rs : List Record). rs ++ end) (append_assoc (front ++ evidence) classes members) ∙ append_assoc (front ++ evidence) (classes ++ members) end)
     ∙ (text-append (front ++ evidence) ((classes ++ members) ++ end) ∙ ap (λ (t : Text). t ++ text_of ((classes ++ members) ++ end)) (text-append front evidence))
 
-pub end_text : text_of (End ∷ []) ≡ 101 ∷ 110 ∷ 100 ∷ 10 ∷ []
-unfolding spelling
-end_text = refl
-
-pub last_text : (classes members : List Record) {none first second text : Text} → none ≡ [] → first ≡ none ++ text_of classes → second ≡ first ++ text_of members → text ≡ second ++ 101 ∷ 110 ∷ 100 ∷ 10 ∷ [] → text ≡ text_of ((classes ++ members) ++ End ∷ [])
+pub last_text : (classes members : List Record) {none first second text : Text} → none ≡ [] → first ≡ none ++ text_of classes → second ≡ first ++ text_of members → text ≡ second ++ text_of (End ∷ []) → text ≡ text_of ((classes ++ members) ++ End ∷ [])
 last_text classes members {none} {first} {second} {text} e0 e1 e2 e3 =
     let one : first ≡ text_of classes = e1 ∙ ap (λ (t : Text). t ++ text_of classes) e0 in
     let two : second ≡ text_of (classes ++ members) = e2 ∙ (ap (λ (t : Text). t ++ text_of members) one ∙ sym (text-append classes members)) in
-    e3 ∙ (ap (λ (t : Text). t ++ 101 ∷ 110 ∷ 100 ∷ 10 ∷ []) two ∙ (ap (λ (t : Text). text_of (classes ++ members) ++ t) (sym end_text) ∙ sym (text-append (classes ++ members) (End ∷ []))))
+    e3 ∙ (ap (λ (t : Text). t ++ text_of (End ∷ [])) two ∙ sym (text-append (classes ++ members) (End ∷ [])))

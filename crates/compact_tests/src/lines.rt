@@ -1,6 +1,7 @@
 //! What the lines of a result state of its numbers: their marks, and the place of the last evidence that names each.
 
 ghost use Rattle.std.specs.Prelude.{◌≡◌, ◌<◌, ◌≤◌, ℕ, List, [], ◌∷◌, length, slice_index, slice_range, All, IfOk, OnOk};
+ghost use Rattle.net_model.specs.Ascii.{line_feed};
 ghost use Rattle.result_records.specs.Spelling.{spelling};
 ghost use Rattle.result_records.specs.Marks.{evidence_in};
 ghost use Rattle.result_records.specs.Held.{IsFirstFrom};
@@ -69,7 +70,7 @@ impl Stated {
         requires start { start ≤ end }
         requires end { end < length bytes.now }
         requires line { (r : Record) × IsReadableLine (length self.old.evidence.items) r × (spelling r ≡ slice_range bytes.now start end) }
-        requires here { slice_index bytes.now end ≡ 10 }
+        requires here { slice_index bytes.now end ≡ line_feed }
         ensures { OnOk result (NotesLine bytes.now start end self.old self.new) }
     {
         record_is_spelled_once();

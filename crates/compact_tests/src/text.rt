@@ -18,7 +18,9 @@ ghost use Rattle.compact_tests.specs.Stated.{IsReadable, AreEvidenceLines, IsEvi
 use crate::lines::{Span, read_stated};
 use class_refine::Classes;
 use net_model::{Circuit, Vector};
-use result_file::{Budgets, Mark, Record, push_classes, push_members, push_pattern, write_record};
+use result_file::{
+    Budgets, Mark, Record, push_classes, push_head, push_line, push_members, push_pattern,
+};
 use std::alloc::{AllocError, Global};
 
 /// Returns the first two lines and those of the patterns at these places. `numbers` is the number of the circuit's
@@ -35,16 +37,13 @@ pub(crate) fn first_lines(
     ensures circuit { IsCircuit circuit.now }
     ensures lines { IfOk result (λ text. text.items ≡ text_of (Head circuit.now.sources (length circuit.now.positions) numbers ∷ Budget budgets ∷ map Pattern (vectors_at patterns.now places.now))) }
 {
-    let positions = circuit.positions().len() as u32;
-    let head = Record::Head(circuit.sources(), positions, numbers);
-    let mut text = write_record(alloc, &head)?;
-    text.extend_from_slice(&write_record(alloc, &Record::Budget(budgets))?)?;
+    circuit.stands();
     let mut lines = String::new(alloc);
+    push_head(&mut lines, circuit, numbers, budgets)?;
     for place in places {
         push_pattern(&mut lines, &patterns[*place])?;
     }
-    text.extend_from_slice(lines.as_bytes())?;
-    Ok(text)
+    Ok(lines.into_bytes())
 }
 
 /// Appends the needed evidence, the lines of the classes and of the numbers, and the end. Evidence and marks are those
@@ -119,6 +118,6 @@ fn last_lines(alloc: Global, classes: &Classes, marks: &[Mark]) -> Result<String
     let mut text = String::new(alloc);
     push_classes(&mut text, classes)?;
     push_members(&mut text, classes, marks)?;
-    text.push_str("end\n")?;
+    push_line(&mut text, &Record::End)?;
     Ok(text)
 }

@@ -21,7 +21,7 @@ use Rattle.dia_check.specs.declared.stop.Stop.TheVariants as stop
 use Rattle.result_file.specs.declared.checked.Checked.{Checked}
 use Rattle.dia_check.specs.Checker.{IsCheckOf, HasCheck, IsJudgedWhole, IsRefusedText, IsJudged, JudgesText, JudgesWaiting, JudgesEnd}
 use Rattle.result_file.specs.Accepted.{IsAcceptedText}
-use Rattle.dia_check.specs.Reader.{IsHeld, HasJudgedLines, IsReading, HasHeld, HasOpen, AreTaken, IsTaken, TakesLines, TakesPiece, IsRefusedEnd}
+use Rattle.dia_check.specs.Reader.{IsHeld, HasJudgedLines, IsReading, IsTaken, TakesPiece, IsRefusedEnd}
 use Rattle.dia_check.proofs.CheckLemmas.{fault_behind, refused_longer, text_seen}
 
 -- ---- a line that is taken out
@@ -43,18 +43,15 @@ module _ {c : Circuit} {fed : Text} {r : Reader} (h : IsHeld c fed r) (short : l
     fed_is = rw lines_is parts;
   }
 
-  line_stopped_by : (new : Checker) (s : Stop) → IsJudged c (h.text ++ ended) new (Err s) → (r' : Reader) → AreTaken c fed r' (Err s)
+  line_stopped_by : (new : Checker) (s : Stop) → IsJudged c (h.text ++ ended) new (Err s) → (r' : Reader) → IsTaken c fed r' (Err s)
   line_stopped_by new (stop.Refused fault) is r' = subst (λ (t : Text). IsRefusedText c t fault) (sym parts) (refused_longer rest is)
   line_stopped_by new stop.NoMemory is r' = tt
 
-  pub line_stopped : (new : Checker) (s : Stop) → JudgesText c r.checker new ended (Err s) → (r' : Reader) → AreTaken c fed r' (Err s)
+  pub line_stopped : (new : Checker) (s : Stop) → JudgesText c r.checker new ended (Err s) → (r' : Reader) → IsTaken c fed r' (Err s)
   line_stopped new s judges r' = line_stopped_by new s (judges.judged h.text h.check within) r'
 
-  pub line_smaller : length rest < length r.lines
-  line_smaller = omega (arith, ap length first.cut, length-append line (10 ∷ rest))
-
-pub has_check : {c : Circuit} {r : Reader} → HasHeld c r → HasCheck c r.checker
-has_check has = record { text = has.held.text; is = has.held.check }
+pub has_check : {c : Circuit} {fed : Text} {r : Reader} → IsHeld c fed r → HasCheck c r.checker
+has_check {c} {fed} {r} h = record { text = h.text; is = h.check }
 
 -- ---- a piece that is fed
 
@@ -151,77 +148,45 @@ module _ {c : Circuit} {fed : Text} {old : Reader} (is : HasJudgedLines c fed ol
   whole : (fed ++ inside) ++ drop count piece ≡ fed ++ piece
   whole = append_assoc fed inside (drop count piece) ∙ ap (λ (t : Text). fed ++ t) (take-append-drop count piece)
 
-  module _ (r : Reader) (checker_is : r.checker ≡ old.checker) (lines_is : r.lines ≡ old.lines ++ inside) where
-    pub inside_held : IsHeld c (fed ++ inside) r
-    inside_held = held_more is.held inside r checker_is lines_is
+  -- The piece is held, up to the limit.
+  pub inside_held : (r : Reader) → r.checker ≡ old.checker → r.lines ≡ old.lines ++ inside → IsHeld c (fed ++ inside) r
+  inside_held r checker_is lines_is = held_more is.held inside r checker_is lines_is
+
+  -- A line of it is refused.
+  stopped_in : (mid : Reader) (s : Stop) → IsTaken c (fed ++ inside) mid (Err s) → IsTaken c (fed ++ piece) mid (Err s)
+  stopped_in mid (stop.Refused fault) refused = subst (λ (t : Text). IsRefusedText c t fault) whole (refused_longer (drop count piece) refused)
+  stopped_in mid stop.NoMemory refused = tt
+
+  -- Each line of it was judged.
+  module _ {mid : Reader} (h : IsHeld c (fed ++ inside) mid) where
+    pub line_refused : {k : Checker} (s : Stop) (line rest : Text) → IsFirstLine mid.lines line rest → JudgesText c mid.checker k (line ++ 10 ∷ []) (Err s) → IsTaken c (fed ++ piece) mid (Err s)
+    line_refused {k} s line rest first judges = stopped_in mid s (line_stopped h inside_short line rest first k s judges mid)
+
+    judged_in : (k : Checker) (s : Stop) → IsJudged c h.text k (Err s) → IsTaken c (fed ++ piece) mid (Err s)
+    judged_in k (stop.Refused fault) refused = stopped_in mid (stop.Refused fault) (subst (λ (t : Text). IsRefusedText c t fault) (sym h.fed_is) (refused_longer mid.lines refused))
+    judged_in k stop.NoMemory refused = tt
+
+    -- A waiting pattern is refused.
+    pub waiting_stopped : {k : Checker} (s : Stop) → JudgesWaiting c mid.checker k (Err s) → IsTaken c (fed ++ piece) mid (Err s)
+    waiting_stopped {k} s judges = judged_in k s (judges.judged h.text h.check)
 
     -- All of the piece is within the limit.
-    pub piece_taken : {new : Reader} {x : Unit {0}} → TakesLines c r new (Ok x) → length piece ≤ count → r.room ≡ old.room - count → HasJudgedLines c (fed ++ piece) new
-    piece_taken {new} takes all room_is =
-        let taken = takes.taken (fed ++ inside) inside_held inside_short in
+    pub piece_taken : ¬ Contains mid.lines 10 → length piece ≤ count → mid.room ≡ old.room - count → HasJudgedLines c (fed ++ piece) mid
+    piece_taken one all room_is =
         let same : fed ++ inside ≡ fed ++ piece = ap (λ (t : Text). fed ++ t) (take_all count piece all) in
         record {
-          held = subst (λ (t : Text). IsHeld c t new) same taken.0;
-          one = taken.1;
-          room = omega (arith, takes.room, room_is, is.room, count_is, all, length-append fed piece);
+          held = subst (λ (t : Text). IsHeld c t mid) same h;
+          one = one;
+          room = omega (arith, room_is, is.room, count_is, all, length-append fed piece);
         }
 
-    stopped_in : (new r' : Reader) (s : Stop) → AreTaken c (fed ++ inside) new (Err s) → IsTaken c (fed ++ piece) r' (Err s)
-    stopped_in new r' (stop.Refused fault) refused = subst (λ (t : Text). IsRefusedText c t fault) whole (refused_longer (drop count piece) refused)
-    stopped_in new r' stop.NoMemory refused = tt
-
-    pub piece_stopped : {new : Reader} (s : Stop) → TakesLines c r new (Err s) → (r' : Reader) → IsTaken c (fed ++ piece) r' (Err s)
-    piece_stopped {new} s takes r' = stopped_in new r' s (takes.taken (fed ++ inside) inside_held inside_short)
-
-    module _ {new : Reader} {x : Unit {0}} (takes : TakesLines c r new (Ok x)) where
-      judged_in : (k : Checker) (r' : Reader) (s : Stop) → (h : IsHeld c (fed ++ inside) new) → IsJudged c h.text k (Err s) → IsTaken c (fed ++ piece) r' (Err s)
-      judged_in k r' (stop.Refused fault) h refused =
-          let longer = refused_longer new.lines refused in
-          subst (λ (t : Text). IsRefusedText c t fault) whole (refused_longer (drop count piece) (subst (λ (t : Text). IsRefusedText c t fault) (sym h.fed_is) longer))
-      judged_in k r' stop.NoMemory h refused = tt
-
-      -- A waiting pattern is refused.
-      pub waiting_stopped : {k : Checker} (s : Stop) → JudgesWaiting c new.checker k (Err s) → (r' : Reader) → IsTaken c (fed ++ piece) r' (Err s)
-      waiting_stopped {k} s judges r' =
-          let h = (takes.taken (fed ++ inside) inside_held inside_short).0 in
-          judged_in k r' s h (judges.judged h.text h.check)
-
-      pub waiting_has : HasCheck c new.checker
-      waiting_has = let h = (takes.taken (fed ++ inside) inside_held inside_short).0 in record { text = h.text; is = h.check }
-
-      -- The line goes beyond the limit.
-      pub piece_beyond : {k : Checker} {y : Unit {0}} → JudgesWaiting c new.checker k (Ok y) → k.waiting.items ≡ [] → count < length piece → IsRefusedText c (fed ++ piece) (fault_behind why.TooLong k.progress.lines)
-      piece_beyond {k} judges none below =
-          let taken = takes.taken (fed ++ inside) inside_held inside_short in
-          let h = taken.0 in
-          let full : length (h.text ++ new.lines) ≡ RESULT_LIMIT = omega (arith, ap length h.fed_is, length-append fed inside, inside_length, is.room, count_is, below) in
-          let fault = fault_behind why.TooLong k.progress.lines in
-          let refused = beyond_limit new.lines (judges.judged h.text h.check) none taken.1 full (drop count piece) (omega (arith, below, length-drop count piece)) in
-          subst (λ (t : Text). IsRefusedText c t fault) (ap (λ (t : Text). t ++ drop count piece) (sym h.fed_is) ∙ whole) refused
-
-pub has_held : {c : Circuit} {old : Reader} (has : HasOpen c old) (piece : Text) (count : ℕ) → count ≡ min (length piece) old.room → (r : Reader) → r.checker ≡ old.checker → r.lines ≡ old.lines ++ take count piece → HasHeld c r
-has_held {c} has piece count count_is r checker_is lines_is = record {
-  fed = has.fed ++ take count piece;
-  held = inside_held has.is piece count count_is r checker_is lines_is;
-  short = inside_short has.is piece count count_is;
-}
-
--- ---- as the calls state it
-
-pub lines_stopped : {c : Circuit} {old mid new : Reader} {k : Checker} (s : Stop) (line rest : Text) → ((fed : Text) → IsHeld c fed old → length fed ≤ RESULT_LIMIT → IsHeld c fed mid) → IsFirstLine mid.lines line rest
-    → JudgesText c mid.checker k (line ++ 10 ∷ []) (Err s) → new.room ≡ old.room → new.refused ≡ old.refused → TakesLines c old new (Err s)
-lines_stopped {c} {old} {mid} {new} {k} s line rest held first judges room refused = record {
-  taken = λ fed is short. line_stopped (held fed is short) short line rest first k s judges new;
-  room = room;
-  refused = refused;
-}
-
-module _ {c : Circuit} {old : Reader} (piece : Text) (count : ℕ) (count_is : count ≡ min (length piece) old.room) {r : Reader} (checker_is : r.checker ≡ old.checker) (lines_is : r.lines ≡ old.lines ++ take count piece) where
-  pub takes_stopped : {mid new : Reader} (s : Stop) → TakesLines c r mid (Err s) → new.refused ≡ old.refused → TakesPiece c old new piece (Err s)
-  takes_stopped {mid} {new} s takes refused = record { taken = λ fed is. piece_stopped is piece count count_is r checker_is lines_is s takes new; refused = refused }
-
-  pub takes_waiting_stopped : {mid new : Reader} {x : Unit {0}} {k : Checker} (s : Stop) → TakesLines c r mid (Ok x) → JudgesWaiting c mid.checker k (Err s) → new.refused ≡ old.refused → TakesPiece c old new piece (Err s)
-  takes_waiting_stopped {mid} {new} s takes judges refused = record { taken = λ fed is. waiting_stopped is piece count count_is r checker_is lines_is takes s judges new; refused = refused }
+    -- The line goes beyond the limit.
+    pub piece_beyond : {k : Checker} {x : Unit {0}} → ¬ Contains mid.lines 10 → JudgesWaiting c mid.checker k (Ok x) → k.waiting.items ≡ [] → count < length piece → IsRefusedText c (fed ++ piece) (fault_behind why.TooLong k.progress.lines)
+    piece_beyond {k} one judges none below =
+        let full : length (h.text ++ mid.lines) ≡ RESULT_LIMIT = omega (arith, ap length h.fed_is, length-append fed inside, inside_length, is.room, count_is, below) in
+        let fault = fault_behind why.TooLong k.progress.lines in
+        let refused = beyond_limit mid.lines (judges.judged h.text h.check) none one full (drop count piece) (omega (arith, below, length-drop count piece)) in
+        subst (λ (t : Text). IsRefusedText c t fault) (ap (λ (t : Text). t ++ drop count piece) (sym h.fed_is) ∙ whole) refused
 
 -- ---- the end
 

@@ -1,5 +1,6 @@
 -- The lines of a file that were judged, and the waiting ones.
 use Rattle.std.specs.Prelude.{◌≡◌, ◌≤◌, ◌<◌, ◌^◌, ℕ, Bool, List, [], ◌∷◌, ◌++◌, map, length, All, Contains, Option, None, Result, Ok, Err, IsSome, IsTrue, ⊤}
+use Rattle.net_model.specs.Ascii.{line_feed}
 use Rattle.net_model.specs.Circuit.{Circuit}
 use Rattle.net_model.specs.FaultList.{fault_count}
 use Rattle.net_model.specs.ClassTable.{ClassTable, class_at, representative}
@@ -48,7 +49,7 @@ pub record IsChecker (c : Circuit) (seen : List Record) (k : Checker) : Type 0 w
 pub record AreUnjudged (c : Circuit) (seen : List Record) (waiting : List (List Bool)) : Type 0 where
   pub widths : All (λ v. length v ≡ c.sources) waiting
   pub few : length waiting ≤ LANES
-  pub lines : All (λ v. ¬ Contains (spelling (Pattern v)) 10) waiting
+  pub lines : All (λ v. ¬ Contains (spelling (Pattern v)) line_feed) waiting
   pub place : 0 < length waiting → (2 ≤ length seen) × (class_lines seen ≡ 0)
 
 -- The text has at most as many bytes as the limit allows, and is that of the records seen and of the patterns waiting
@@ -86,7 +87,7 @@ pub record JudgesWaiting (c : Circuit) (old new : Checker) (result : Result (Uni
 
 -- The line of a record, with its LF.
 abbrev pub record_line : Record → Text
-record_line r = spelling r ++ 10 ∷ []
+record_line r = spelling r ++ line_feed ∷ []
 
 -- The evidence names the lowest number that is neither a representative nor marked, with its representative.
 pub record NamesOpen (t : ClassTable) (given : List (Option Given)) (evidence : Evidence) : Type 0 where

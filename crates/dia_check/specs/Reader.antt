@@ -1,5 +1,6 @@
 -- What was read of a file.
-use Rattle.std.specs.Prelude.{◌≡◌, ◌≤◌, ◌<◌, ◌+◌, ◌++◌, length, Contains, None, Some, Result, Ok, Err, ⊤}
+use Rattle.std.specs.Prelude.{◌≡◌, ◌<◌, ◌+◌, ◌++◌, length, Contains, None, Some, Result, Ok, Err, ⊤}
+use Rattle.net_model.specs.Ascii.{line_feed}
 use Rattle.net_model.specs.Circuit.{Circuit}
 use Rattle.result_records.specs.declared.limits.TheConstants.{RESULT_LIMIT}
 use Rattle.result_file.specs.declared.fault.ResultFault.{ResultFault}
@@ -19,19 +20,13 @@ pub record IsHeld (c : Circuit) (fed : Text) (r : Reader) : Type 0 where
 -- Each line of these bytes was judged, and the held bytes have no LF. The room is what the limit still allows.
 pub record HasJudgedLines (c : Circuit) (fed : Text) (r : Reader) : Type 0 where
   pub held : IsHeld c fed r
-  pub one : ¬ Contains r.lines 10
+  pub one : ¬ Contains r.lines line_feed
   pub room : length fed + r.room ≡ RESULT_LIMIT
 
 -- These bytes were read. Each line of them was judged, or the first line that breaks a rule is known.
 pub record IsReading (c : Circuit) (fed : Text) (r : Reader) : Type 0 where
   pub going : r.refused ≡ None → HasJudgedLines c fed r
   pub refused : (fault : ResultFault) → r.refused ≡ Some fault → IsRefusedText c fed fault
-
--- Lines of some bytes within the limit were judged, and the remaining bytes are held.
-pub record HasHeld (c : Circuit) (r : Reader) : Type 0 where
-  pub fed : Text
-  pub held : IsHeld c fed r
-  pub short : length fed ≤ RESULT_LIMIT
 
 -- Each line of some bytes was judged.
 pub record HasOpen (c : Circuit) (r : Reader) : Type 0 where
@@ -43,18 +38,7 @@ pub record HasReading (c : Circuit) (r : Reader) : Type 0 where
   pub fed : Text
   pub is : IsReading c fed r
 
--- Each complete line among these bytes is judged: all are right, or the file is refused. If memory is missing, this
--- says nothing.
-abbrev pub AreTaken : Circuit → Text → Reader → Result (Unit {0}) Stop → Type 0
-AreTaken c fed r (Ok x) = IsHeld c fed r × (¬ Contains r.lines 10)
-AreTaken c fed r (Err (stop.Refused fault)) = IsRefusedText c fed fault
-AreTaken c fed r (Err stop.NoMemory) = ⊤
-
-pub record TakesLines (c : Circuit) (old new : Reader) (result : Result (Unit {0}) Stop) : Type 0 where
-  pub taken : (fed : Text) → IsHeld c fed old → length fed ≤ RESULT_LIMIT → AreTaken c fed new result
-  pub room : new.room ≡ old.room
-  pub refused : new.refused ≡ old.refused
-
+-- Each line of these bytes is judged: all are right, or the file is refused. If memory is missing, this says nothing.
 abbrev pub IsTaken : Circuit → Text → Reader → Result (Unit {0}) Stop → Type 0
 IsTaken c fed r (Ok x) = HasJudgedLines c fed r
 IsTaken c fed r (Err (stop.Refused fault)) = IsRefusedText c fed fault

@@ -1,15 +1,16 @@
 //! The checker of lines: the rule of each record, what the lines so far state, and the patterns that are waiting.
 
-ghost use Rattle.std.specs.Prelude.{◌≡◌, ◌≢◌, ◌<◌, ◌+◌, ◌^◌, ◌↔◌, ◌++◌, ◌∷◌, [], ℕ, List, None, Some, Contains, IfOk, OnOk, IsTrue, IsSome, length, slice_set};
+ghost use Rattle.std.specs.Prelude.{◌≡◌, ◌<◌, ◌+◌, ◌^◌, ◌↔◌, ◌++◌, ◌∷◌, [], ℕ, List, None, Contains, IfOk, OnOk, IsTrue, IsSome, length};
+ghost use Rattle.net_model.specs.Ascii.{line_feed};
 ghost use Rattle.net_model.specs.Circuit.{Circuit};
 ghost use Rattle.member_marks.specs.Given.{given_mark, AreGiven};
 ghost use Rattle.result_records.specs.declared.record.Record.{Record};
 ghost use Rattle.result_records.specs.declared.record.Record.TheVariants.{Head, Budget, Pattern, Same, Class, Member, End};
-ghost use Rattle.result_records.specs.Marks.{pattern_of, evidence_in, mark_of as mark_by};
+ghost use Rattle.result_records.specs.Marks.{pattern_of, evidence_in};
 ghost use Rattle.result_records.specs.Limits.{AreWithinLimits};
 ghost use Rattle.result_file.specs.Lines.{NamesNext, IsRightClass, IsRightMember};
 ghost use Rattle.text_fields.specs.Fields.{Text};
-ghost use Rattle.result_records.specs.Spelling.{HasSpelling, IsNoSpelling, spelling};
+ghost use Rattle.result_records.specs.Spelling.{HasSpelling, spelling};
 ghost use Rattle.dia_check.specs.Checker.{HasCheck, JudgesText, JudgesWaiting, JudgesEnd, IsChecker, IsCheckOf, IsJudgedWhole, NamesOpen, record_line};
 ghost use Rattle.result_file.specs.Accepted.{IsAcceptedText};
 
@@ -69,47 +70,32 @@ impl<'a> Checker<'a> {
         })
     }
 
+    // Judges a line. A line that isn't a record is refused.
     pub(crate) fn judge_line(&mut self, alloc: Global, subject: &Subject, line: &[u8]) -> Judged
         requires check { HasCheck subject.now self.old }
-        requires one { ¬ Contains line.now 10 }
-        ensures { JudgesText subject.now self.old self.new (line.now ++ 10 ∷ []) result }
+        requires one { ¬ Contains line.now line_feed }
+        ensures { JudgesText subject.now self.old self.new (line.now ++ line_feed ∷ []) result }
     {
         match read_record(alloc, line) {
-            Ok(record) => self.judge(alloc, subject, record),
-            Err(RecordFault::Syntax) => self.refuse_line(subject, line),
+            Ok(record) => {
+                self.make_way(subject, &record)?;
+                self.judge_record(subject, record)
+            }
+            Err(RecordFault::Syntax) => {
+                self.flush(subject)?;
+                Err(self.refused(ResultKind::Syntax))
+            }
             Err(RecordFault::NoMemory) => Err(Stop::NoMemory),
         }
     }
 
-    // Refuses a line that isn't a record.
-    fn refuse_line(&mut self, subject: &Subject, line: &[u8]) -> Judged
-        requires check { HasCheck subject.now self.old }
-        requires one { ¬ Contains line.now 10 }
-        requires wrong { IsNoSpelling line.now }
-        ensures { JudgesText subject.now self.old self.new (line.now ++ 10 ∷ []) result }
-    {
-        self.flush(subject)?;
-        Err(self.refused(ResultKind::Syntax))
-    }
-
-    // Judges the line of a record.
-    fn judge(&mut self, alloc: Global, subject: &Subject, entry: Record) -> Judged
-        requires check { HasCheck subject.now self.old }
-        requires spelled { HasSpelling entry }
-        requires one { ¬ Contains (spelling entry) 10 }
-        ensures { JudgesText subject.now self.old self.new (record_line entry) result }
-    {
-        self.make_way(subject, &entry)?;
-        self.judge_next(alloc, subject, entry)
-    }
-
     // Judges the line of a record. Patterns are waiting only if the record is a pattern too.
-    fn judge_next(&mut self, alloc: Global, subject: &Subject, entry: Record) -> Judged
+    fn judge_record(&mut self, subject: &Subject, entry: Record) -> Judged
         requires check { HasCheck subject.now self.old }
         requires room { length self.old.waiting.items < LANES }
         requires none { pattern_of entry ≡ None → self.old.waiting.items ≡ [] }
         requires spelled { HasSpelling entry }
-        requires one { ¬ Contains (spelling entry) 10 }
+        requires one { ¬ Contains (spelling entry) line_feed }
         ensures { JudgesText subject.now self.old self.new (record_line entry) result }
     {
         match entry {
@@ -173,11 +159,15 @@ impl<'a> Checker<'a> {
     fn judge_pattern(&mut self, subject: &Subject, v: Vector) -> Judged
         requires check { HasCheck subject.now self.old }
         requires room { length self.old.waiting.items < LANES }
-        requires one { ¬ Contains (spelling (Pattern v)) 10 }
+        requires one { ¬ Contains (spelling (Pattern v)) line_feed }
         ensures { JudgesText subject.now self.old self.new (record_line (Pattern v)) result }
     {
         if v.len() != subject.circuit().sources() as usize {
-            return self.refuse_pattern(subject, &v);
+            self.flush(subject)?;
+            if !self.progress.is_body() {
+                return Err(self.refused(ResultKind::Order));
+            }
+            return Err(self.refused(ResultKind::Pattern));
         }
         if !self.progress.is_body() {
             return Err(self.refused(ResultKind::Order));
@@ -185,20 +175,6 @@ impl<'a> Checker<'a> {
         self.waiting.reserve(1)?;
         self.waiting.push_reserved(v);
         Ok(())
-    }
-
-    // Refuses a pattern that doesn't have one bit for each source.
-    fn refuse_pattern(&mut self, subject: &Subject, v: &Vector) -> Judged
-        requires check { HasCheck subject.now self.old }
-        requires one { ¬ Contains (spelling (Pattern v.now)) 10 }
-        requires wrong { length v.now ≢ subject.now.sources }
-        ensures { JudgesText subject.now self.old self.new (record_line (Pattern v.now)) result }
-    {
-        self.flush(subject)?;
-        if !self.progress.is_body() {
-            return Err(self.refused(ResultKind::Order));
-        }
-        Err(self.refused(ResultKind::Pattern))
     }
 
     fn judge_head(
@@ -211,7 +187,7 @@ impl<'a> Checker<'a> {
         requires check { HasCheck subject.now self.old }
         requires none { self.old.waiting.items ≡ [] }
         requires spelled { HasSpelling (Head sources positions numbers) }
-        requires one { ¬ Contains (spelling (Head sources positions numbers)) 10 }
+        requires one { ¬ Contains (spelling (Head sources positions numbers)) line_feed }
         ensures { JudgesText subject.now self.old self.new (record_line (Head sources positions numbers)) result }
     {
         if self.progress.lines != 0 {
@@ -228,7 +204,7 @@ impl<'a> Checker<'a> {
         requires check { HasCheck subject.now self.old }
         requires none { self.old.waiting.items ≡ [] }
         requires spelled { HasSpelling (Budget budgets) }
-        requires one { ¬ Contains (spelling (Budget budgets)) 10 }
+        requires one { ¬ Contains (spelling (Budget budgets)) line_feed }
         ensures { JudgesText subject.now self.old self.new (record_line (Budget budgets)) result }
     {
         if self.progress.lines != 1 {
@@ -246,7 +222,7 @@ impl<'a> Checker<'a> {
         requires check { HasCheck subject.now self.old }
         requires none { self.old.waiting.items ≡ [] }
         requires spelled { HasSpelling (Same evidence.now) }
-        requires one { ¬ Contains (spelling (Same evidence.now)) 10 }
+        requires one { ¬ Contains (spelling (Same evidence.now)) line_feed }
         ensures { JudgesText subject.now self.old self.new (record_line (Same evidence.now)) result }
     {
         if !self.progress.is_body() {
@@ -261,7 +237,10 @@ impl<'a> Checker<'a> {
         let budgets = self.progress.budgets;
         match self.evidence.check(subject, budgets, evidence) {
             Ok(()) => {
-                self.give(evidence);
+                let mark = mark_of(&evidence.proof);
+                self.marks.give(evidence.member, evidence.partner, mark);
+                self.from = evidence.member + 1;
+                self.progress.lines += 1;
                 Ok(())
             }
             Err(CheckFault::Refused(refusal)) => Err(self.refused(ResultKind::Evidence(refusal))),
@@ -285,29 +264,11 @@ impl<'a> Checker<'a> {
         evidence.member == member && evidence.partner == lead
     }
 
-    // Gives the mark of evidence that is right.
-    fn give(&mut self, evidence: &Evidence)
-        requires member { evidence.now.member < length self.old.marks }
-        requires small { evidence.now.member + 1 < 2 ^ 32 }
-        requires lines { self.old.progress.lines + 1 < 2 ^ 64 }
-        ensures keeper { self.new.keeper ≡ self.old.keeper }
-        ensures marks { self.new.marks ≡ slice_set self.old.marks evidence.now.member (Some (record { partner = evidence.now.partner; mark = mark_by evidence.now.proof })) }
-        ensures from { self.new.from ≡ evidence.now.member + 1 }
-        ensures progress { self.new.progress ≡ record self.old.progress { lines = self.old.progress.lines + 1 } }
-        ensures evidence { self.new.evidence ≡ self.old.evidence }
-        ensures waiting { self.new.waiting ≡ self.old.waiting }
-    {
-        let mark = mark_of(&evidence.proof);
-        self.marks.give(evidence.member, evidence.partner, mark);
-        self.from = evidence.member + 1;
-        self.progress.lines += 1;
-    }
-
     fn judge_class(&mut self, subject: &Subject, number: u32, birth: Option<(u32, u32)>) -> Judged
         requires check { HasCheck subject.now self.old }
         requires none { self.old.waiting.items ≡ [] }
         requires spelled { HasSpelling (Class number birth) }
-        requires one { ¬ Contains (spelling (Class number birth)) 10 }
+        requires one { ¬ Contains (spelling (Class number birth)) line_feed }
         ensures { JudgesText subject.now self.old self.new (record_line (Class number birth)) result }
     {
         if self.progress.lines < 2 || self.progress.members != 0 {
@@ -316,7 +277,8 @@ impl<'a> Checker<'a> {
         if !self.is_next_class(number, birth) {
             return Err(self.refused(ResultKind::Table));
         }
-        self.progress.add_class();
+        self.progress.lines += 1;
+        self.progress.classes += 1;
         Ok(())
     }
 
@@ -343,7 +305,7 @@ impl<'a> Checker<'a> {
         requires check { HasCheck subject.now self.old }
         requires none { self.old.waiting.items ≡ [] }
         requires spelled { HasSpelling (Member number class mark) }
-        requires one { ¬ Contains (spelling (Member number class mark)) 10 }
+        requires one { ¬ Contains (spelling (Member number class mark)) line_feed }
         ensures { JudgesText subject.now self.old self.new (record_line (Member number class mark)) result }
     {
         if self.progress.classes != self.keeper.classes().count() || self.progress.ended {
@@ -376,7 +338,7 @@ impl<'a> Checker<'a> {
         requires check { HasCheck subject.now self.old }
         requires none { self.old.waiting.items ≡ [] }
         requires spelled { HasSpelling (End) }
-        requires one { ¬ Contains (spelling (End)) 10 }
+        requires one { ¬ Contains (spelling (End)) line_feed }
         ensures { JudgesText subject.now self.old self.new (record_line (End)) result }
     {
         if self.progress.classes != self.keeper.classes().count()
@@ -393,7 +355,7 @@ impl<'a> Checker<'a> {
     // Judges the end of the file: the end line must have come, and no bytes after it.
     pub(crate) fn end(&mut self, subject: &Subject, rest: &[u8]) -> Judged
         requires check { HasCheck subject.now self.old }
-        requires one { ¬ Contains rest.now 10 }
+        requires one { ¬ Contains rest.now line_feed }
         ensures { JudgesEnd subject.now self.old self.new rest.now result }
     {
         self.flush(subject)?;

@@ -8,7 +8,7 @@ ghost use Rattle.net_model.specs.FaultList.{fault_count, fault_numbered};
 ghost use Rattle.pair_miter.specs.Adds.{KeepsPlaces};
 ghost use Rattle.pair_miter.specs.Miter.{miter};
 ghost use Rattle.evidence_rules.specs.declared.refusal.Refusal.{Refusal};
-ghost use Rattle.evidence_rules.specs.LogRefusal.{IsRightLog, LogRefused};
+ghost use Rattle.evidence_rules.specs.LogRefusal.{IsRightLog};
 ghost use Rattle.evidence_rules.specs.TreeRefusal.{IsRightTree};
 ghost use Rattle.result_records.specs.declared.limits.TheConstants.{CONFLICTS_LIMIT};
 ghost use Rattle.result_file.specs.Lines.{HasRightRoots, IsRightProof};
@@ -87,40 +87,19 @@ impl<'a> EvidenceChecker<'a> {
     {
         let f = subject.fault(evidence.partner);
         let g = subject.fault(evidence.member);
-        self.check_proof(&f, &g, budgets, &evidence.proof)
-    }
-
-    // Checks a proof for two faults, as `check` does.
-    fn check_proof(
-        &mut self,
-        f: &Fault,
-        g: &Fault,
-        budgets: Budgets,
-        proof: &Proof,
-    ) -> Result<(), CheckFault>
-        requires first { IsFaultOf self.old.circuit f.now }
-        requires second { IsFaultOf self.old.circuit g.now }
-        requires empty { self.old.pool.clauses ≡ [] }
-        requires conflicts { budgets.conflicts ≤ CONFLICTS_LIMIT }
-        ensures right { OnOk result (IsRightProof self.old.circuit f.now g.now budgets proof.now) }
-        ensures refused { (refusal : Refusal) → IsErrOf result (CheckFault.Refused refusal) → ProofRefused self.old.circuit f.now g.now budgets proof.now refusal }
-        ensures circuit { self.new.circuit ≡ self.old.circuit }
-        ensures emptied { self.new.pool.clauses ≡ [] }
-        ensures places { KeepsPlaces self.old.pool self.new.pool }
-    {
-        match proof {
+        match &evidence.proof {
             Proof::Collapse => Ok(()),
             Proof::Covered(tree) => {
                 let kind = EvidenceKind::Covered;
-                self.trees.check(f, g, tree, kind, budgets.cubes)
+                self.trees.check(&f, &g, tree, kind, budgets.cubes)
             }
             Proof::Refuted(tree, log) => {
                 let kind = EvidenceKind::Refuted;
-                self.check_pair(f, g, kind, budgets, tree, log)
+                self.check_pair(&f, &g, kind, budgets, tree, log)
             }
             Proof::Spent(tree, log) => {
                 let kind = EvidenceKind::Spent;
-                self.check_pair(f, g, kind, budgets, tree, log)
+                self.check_pair(&f, &g, kind, budgets, tree, log)
             }
         }
     }
@@ -148,32 +127,10 @@ impl<'a> EvidenceChecker<'a> {
         ensures places { KeepsPlaces self.old.pool self.new.pool }
     {
         self.trees.check(f, g, tree, kind, budgets.cubes)?;
-        if needs_no_clauses(kind, budgets.conflicts, log) {
+        let conflicts = budgets.conflicts;
+        if needs_no_clauses(kind, conflicts, log) {
             return Ok(());
         }
-        self.check_clauses(f, g, kind, budgets.conflicts, log)
-    }
-
-    // Checks a log over the miter of the two faults.
-    fn check_clauses(
-        &mut self,
-        f: &Fault,
-        g: &Fault,
-        kind: EvidenceKind,
-        conflicts: u32,
-        log: &Log,
-    ) -> Result<(), CheckFault>
-        requires first { IsFaultOf self.old.circuit f.now }
-        requires second { IsFaultOf self.old.circuit g.now }
-        requires kind { kind ≢ EvidenceKind.Covered }
-        requires empty { self.old.pool.clauses ≡ [] }
-        requires conflicts { conflicts ≤ CONFLICTS_LIMIT }
-        ensures log { OnOk result (IsRightLog kind (miter self.old.circuit f.now g.now) conflicts log.now) }
-        ensures refused { (refusal : Refusal) → IsErrOf result (CheckFault.Refused refusal) → LogRefused kind (miter self.old.circuit f.now g.now) conflicts log.now refusal }
-        ensures circuit { self.new.circuit ≡ self.old.circuit }
-        ensures emptied { self.new.pool.clauses ≡ [] }
-        ensures places { KeepsPlaces self.old.pool self.new.pool }
-    {
         miter_is_small();
         let space = self.space()?;
         let empty = self.pool.mark();

@@ -46,16 +46,6 @@ impl Progress {
         self.lines >= 2 && self.classes == 0
     }
 
-    // Counts one more class line.
-    pub(crate) fn add_class(&mut self)
-        requires lines { self.old.lines + 1 < 2 ^ 64 }
-        requires classes { self.old.classes + 1 < 2 ^ 32 }
-        ensures { self.new ≡ record self.old { lines = self.old.lines + 1; classes = self.old.classes + 1 } }
-    {
-        self.lines += 1;
-        self.classes += 1;
-    }
-
     // Counts one more member line with this mark.
     pub(crate) fn add_member(&mut self, mark: Mark)
         requires lines { self.old.lines + 1 < 2 ^ 64 }

@@ -4,7 +4,7 @@ ghost use Rattle.std.specs.Prelude.{◌≡◌, ◌≤◌, ◌++◌, [], min, len
 ghost use Rattle.result_file.specs.declared.fault.ResultFault.{ResultFault};
 ghost use Rattle.text_fields.specs.Fields.{Text};
 ghost use Rattle.result_file.specs.Accepted.{IsAcceptedText};
-ghost use Rattle.dia_check.specs.Reader.{IsReading, IsRefusedEnd, HasHeld, HasOpen, HasReading, TakesLines, TakesPiece};
+ghost use Rattle.dia_check.specs.Reader.{IsReading, IsRefusedEnd, HasOpen, HasReading, TakesPiece};
 
 use crate::answer::FileFault;
 use crate::checker::Checker;
@@ -79,7 +79,9 @@ impl<'a> Reader<'a> {
         let inside = self.inside(piece.len());
         self.lines.feed(&piece[..inside])?;
         self.room -= inside as u64;
-        self.take_lines(alloc, subject)?;
+        while let Some(line) = self.lines.take_line()? {
+            self.checker.judge_line(alloc, subject, &line)?;
+        }
         if inside < piece.len() {
             self.checker.flush(subject)?;
             return Err(self.checker.refused(ResultKind::TooLong));
@@ -96,17 +98,6 @@ impl<'a> Reader<'a> {
         } else {
             self.room as usize
         }
-    }
-
-    // Judges each complete line.
-    fn take_lines(&mut self, alloc: Global, subject: &Subject) -> Judged
-        requires { HasHeld subject.now self.old }
-        ensures { TakesLines subject.now self.old self.new result }
-    {
-        while let Some(line) = self.lines.take_line()? {
-            self.checker.judge_line(alloc, subject, &line)?;
-        }
-        Ok(())
     }
 
     // Returns what was read as the whole of a file, or why it is refused.

@@ -17,7 +17,7 @@ use crate::fallen::lowest_fallen;
 use crate::gathered::Gathered;
 use crate::pair::{PairSpace, Settled, settle_pair};
 use crate::setting::GenerationSetting;
-use crate::writing::{write_head, write_last, write_patterns};
+use crate::writing::{write_last, write_patterns};
 use diag_shelf::{Shelf, ShelfFault};
 use kept_vectors::{Cube, Keeper};
 use member_marks::{Marks, mark_of};
@@ -73,7 +73,7 @@ impl<'a> Draft<'a> {
         ensures draft { OnOk result (IsDraft setting.now self.new (S.state shelf.old) (S.state shelf.new)) }
         ensures err { IfErr result (λ fault. BrokeOff setting.now.circuit fault (S.state shelf.old) (S.state shelf.new)) }
     {
-        write_head(&mut self.gathered, shelf, setting)?;
+        self.gathered.add_head(shelf, setting)?;
         write_patterns(&mut self.gathered, shelf, self.keeper.vectors())?;
         Ok(())
     }

@@ -1,40 +1,39 @@
 //! Lines that are made and not yet written.
 
-ghost use Rattle.std.specs.Prelude.{◌≡◌, ◌∷◌, ◌<◌, [], OnOk, length, slice_index_or, None};
-ghost use Rattle.net_model.specs.ClassTable.{class_at, class_count};
+ghost use Rattle.std.specs.Prelude.{◌≡◌, ◌∷◌, [], OnOk, string_bytes};
 ghost use Rattle.result_records.specs.Spelling.{text_of};
-ghost use Rattle.result_records.specs.declared.record.Record.TheVariants.{Pattern, Class, Member};
+ghost use Rattle.result_records.specs.declared.record.Record.TheVariants.{Pattern};
+ghost use Rattle.dia_gen.specs.Made.{head_lines};
 ghost use Rattle.dia_gen.specs.Writing.{Gathers};
 
-use class_refine::Classes;
+use crate::setting::GenerationSetting;
 use diag_shelf::{Shelf, ShelfFault, write_all};
 use net_model::Vector;
-use result_file::{Mark, Record, push_class_line, push_member_line, push_pattern, write_record};
+use result_file::{Record, push_head, push_line, push_pattern};
 use std::alloc::Global;
 use std::marker::Model;
 
 // If at least this many bytes are waiting, they are written.
 const PIECE: usize = 65_536;
 
-// The waiting text, and room for the line that is being made.
+// The waiting text.
 pub(crate) struct Gathered {
-    text: Vec<u8>,
-    line: String,
+    text: String,
 }
 
 // As for `Draft`.
 impl Drop for Gathered {
     fn drop(self) {
-        let Gathered { text: _, line: _ } = self;
+        let Gathered { text: _ } = self;
     }
 }
 
 impl Model for Gathered {
-    ghost use Rattle.std.specs.Prelude.{ℕ, List};
+    ghost use Rattle.std.specs.Prelude.{ℕ, List, string_bytes};
 
     ghost Value = { List ℕ };
 
-    ghost view = { λ gathered. gathered.text.items };
+    ghost view = { λ gathered. string_bytes gathered.text };
 }
 
 impl Gathered {
@@ -42,8 +41,7 @@ impl Gathered {
         ensures { result ≡ [] }
     {
         Gathered {
-            text: Vec::new(alloc),
-            line: String::new(alloc),
+            text: String::new(alloc),
         }
     }
 
@@ -55,6 +53,24 @@ impl Gathered {
         write_out(&mut self.text, shelf)
     }
 
+    // Adds the first two lines.
+    pub(crate) fn add_head<S: Shelf>(
+        &mut self,
+        shelf: &mut S,
+        setting: &GenerationSetting,
+    ) -> Result<(), ShelfFault>
+        ensures { Gathers (text_of (head_lines setting.now.circuit setting.now.budgets)) result self.old self.new (S.state shelf.old) (S.state shelf.new) }
+    {
+        let numbers = setting.numbers();
+        push_head(
+            &mut self.text,
+            setting.circuit(),
+            numbers,
+            setting.budgets(),
+        )?;
+        write_piece(&mut self.text, shelf)
+    }
+
     // Adds the line of a record, and drops the record here so that no caller has to.
     pub(crate) fn add_line<S: Shelf>(
         &mut self,
@@ -63,10 +79,8 @@ impl Gathered {
     ) -> Result<(), ShelfFault>
         ensures { Gathers (text_of (line ∷ [])) result self.old self.new (S.state shelf.old) (S.state shelf.new) }
     {
-        match write_record(*self.text.allocator(), &line) {
-            Ok(text) => gather(&mut self.text, shelf, &text),
-            Err(_) => Err(ShelfFault::NoMemory),
-        }
+        push_line(&mut self.text, &line)?;
+        write_piece(&mut self.text, shelf)
     }
 
     pub(crate) fn add_pattern<S: Shelf>(
@@ -76,52 +90,15 @@ impl Gathered {
     ) -> Result<(), ShelfFault>
         ensures { Gathers (text_of (Pattern v.now ∷ [])) result self.old self.new (S.state shelf.old) (S.state shelf.new) }
     {
-        self.line.clear();
-        match push_pattern(&mut self.line, v) {
-            Ok(()) => gather(&mut self.text, shelf, self.line.as_bytes()),
-            Err(_) => Err(ShelfFault::NoMemory),
-        }
-    }
-
-    pub(crate) fn add_class<S: Shelf>(
-        &mut self,
-        shelf: &mut S,
-        classes: &Classes,
-        class: u32,
-    ) -> Result<(), ShelfFault>
-        requires { class < class_count classes.now }
-        ensures { Gathers (text_of (Class class (slice_index_or classes.now.births class None) ∷ [])) result self.old self.new (S.state shelf.old) (S.state shelf.new) }
-    {
-        self.line.clear();
-        match push_class_line(&mut self.line, classes, class) {
-            Ok(()) => gather(&mut self.text, shelf, self.line.as_bytes()),
-            Err(_) => Err(ShelfFault::NoMemory),
-        }
-    }
-
-    pub(crate) fn add_member<S: Shelf>(
-        &mut self,
-        shelf: &mut S,
-        classes: &Classes,
-        number: u32,
-        mark: Mark,
-    ) -> Result<(), ShelfFault>
-        requires { number < length classes.now.class_of }
-        ensures { Gathers (text_of (Member number (class_at classes.now number) mark ∷ [])) result self.old self.new (S.state shelf.old) (S.state shelf.new) }
-    {
-        self.line.clear();
-        match push_member_line(&mut self.line, classes, number, mark) {
-            Ok(()) => gather(&mut self.text, shelf, self.line.as_bytes()),
-            Err(_) => Err(ShelfFault::NoMemory),
-        }
+        push_pattern(&mut self.text, v)?;
+        write_piece(&mut self.text, shelf)
     }
 }
 
-// Appends `line` to the waiting text, and writes both if they are long enough for a piece.
-fn gather<S: Shelf>(text: &mut Vec<u8>, shelf: &mut S, line: &[u8]) -> Result<(), ShelfFault>
-    ensures { Gathers line.now result text.old.items text.new.items (S.state shelf.old) (S.state shelf.new) }
+// Writes the waiting text if it is long enough for a piece.
+fn write_piece<S: Shelf>(text: &mut String, shelf: &mut S) -> Result<(), ShelfFault>
+    ensures { Gathers [] result (string_bytes text.old) (string_bytes text.new) (S.state shelf.old) (S.state shelf.new) }
 {
-    text.extend_from_slice(line)?;
     if text.len() < PIECE {
         return Ok(());
     }
@@ -129,11 +106,11 @@ fn gather<S: Shelf>(text: &mut Vec<u8>, shelf: &mut S, line: &[u8]) -> Result<()
 }
 
 // Writes the waiting text.
-fn write_out<S: Shelf>(text: &mut Vec<u8>, shelf: &mut S) -> Result<(), ShelfFault>
-    ensures gathers { Gathers [] result text.old.items text.new.items (S.state shelf.old) (S.state shelf.new) }
-    ensures empty { OnOk result (text.new.items ≡ []) }
+fn write_out<S: Shelf>(text: &mut String, shelf: &mut S) -> Result<(), ShelfFault>
+    ensures gathers { Gathers [] result (string_bytes text.old) (string_bytes text.new) (S.state shelf.old) (S.state shelf.new) }
+    ensures empty { OnOk result (string_bytes text.new ≡ []) }
 {
-    write_all(shelf, text.as_slice())?;
+    write_all(shelf, text.as_bytes())?;
     text.clear();
     Ok(())
 }

@@ -87,7 +87,7 @@ pub(crate) fn settle_pair(
 }
 
 // Returns what a search of cubes finds for a pair of numbers: what is already known of them, else the result of a
-// search now.
+// search now. Without a budget of cubes, returns the tree of one open leaf.
 pub(crate) fn find(
     alloc: Global,
     setting: &GenerationSetting,
@@ -104,27 +104,10 @@ pub(crate) fn find(
     if let Some(found) = space.ahead.take(lead, member) {
         return Ok(found);
     }
-    let (f, g) = (setting.fault(lead), setting.fault(member));
-    search_cubes(alloc, setting, &mut space.sim, &f, &g)
-}
-
-// Searches cubes for a pair. Without a budget of cubes, returns the tree of one open leaf.
-fn search_cubes(
-    alloc: Global,
-    setting: &GenerationSetting,
-    sim: &mut PairSim,
-    f: &Fault,
-    g: &Fault,
-) -> Result<Searched, AllocError>
-    requires first { IsFaultOf setting.now.circuit f.now }
-    requires second { IsFaultOf setting.now.circuit g.now }
-    requires simulated { sim.old.circuit ≡ setting.now.circuit }
-    ensures found { IfOk result (IsSearchedFor setting.now.circuit f.now g.now setting.now.budgets) }
-    ensures circuit { sim.new.circuit ≡ sim.old.circuit }
-{
     let cubes = setting.budgets().cubes;
     if cubes > 0 {
-        return search_with(alloc, sim, setting.levels(), f, g, cubes);
+        let (f, g) = (setting.fault(lead), setting.fault(member));
+        return search_with(alloc, &mut space.sim, setting.levels(), &f, &g, cubes);
     }
     let mut tree = Tree::new(alloc);
     tree.push(Token::Rest)?;

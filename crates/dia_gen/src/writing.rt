@@ -1,4 +1,4 @@
-//! The lines of the result: head, patterns, classes and members.
+//! The lines of the result: patterns, classes and members.
 
 ghost use Rattle.std.specs.Prelude.{◌≡◌, ◌∷◌, ◌<◌, ◌-◌, [], map, length, slice_index_or};
 ghost use Rattle.net_model.specs.ClassTable.{number_range};
@@ -6,12 +6,10 @@ ghost use Rattle.result_file.specs.Meaning.{class_records, member_records};
 ghost use Rattle.result_records.specs.Spelling.{text_of};
 ghost use Rattle.result_records.specs.declared.record.Record.TheVariants.{Pattern};
 ghost use Rattle.member_marks.specs.Given.{AreAllMarked};
-ghost use Rattle.dia_gen.specs.Made.{head_lines};
 ghost use Rattle.dia_gen.specs.Marked.{member_for};
 ghost use Rattle.dia_gen.specs.Writing.{Gathers};
 
 use crate::gathered::Gathered;
-use crate::setting::GenerationSetting;
 use class_refine::Classes;
 use diag_shelf::{Shelf, ShelfFault};
 use member_marks::Marks;
@@ -27,21 +25,6 @@ pub(crate) fn write_last<S: Shelf>(
     ensures { Gathers (text_of (Pattern (slice_index_or vectors.now (length vectors.now - 1) []) ∷ [])) result gathered.old gathered.new (S.state shelf.old) (S.state shelf.new) }
 {
     gathered.add_pattern(shelf, &vectors[vectors.len() - 1])
-}
-
-// Adds the first two lines.
-pub(crate) fn write_head<S: Shelf>(
-    gathered: &mut Gathered,
-    shelf: &mut S,
-    setting: &GenerationSetting,
-) -> Result<(), ShelfFault>
-    ensures { Gathers (text_of (head_lines setting.now.circuit setting.now.budgets)) result gathered.old gathered.new (S.state shelf.old) (S.state shelf.new) }
-{
-    let circuit = setting.circuit();
-    let positions = circuit.positions().len() as u32;
-    let head = Record::Head(circuit.sources(), positions, setting.numbers());
-    gathered.add_line(shelf, head)?;
-    gathered.add_line(shelf, Record::Budget(setting.budgets()))
 }
 
 pub(crate) fn write_patterns<S: Shelf>(
@@ -65,7 +48,7 @@ pub(crate) fn write_classes<S: Shelf>(
     ensures { Gathers (text_of (class_records classes.now.births)) result gathered.old gathered.new (S.state shelf.old) (S.state shelf.new) }
 {
     for class in 0..classes.count() {
-        gathered.add_class(shelf, classes, class)?;
+        gathered.add_line(shelf, Record::Class(class, classes.born(class)))?;
     }
     Ok(())
 }
@@ -84,7 +67,10 @@ pub(crate) fn write_members<S: Shelf>(
 {
     for number in 0..numbers {
         let mark = marks.of(classes, number).unwrap();
-        gathered.add_member(shelf, classes, number, mark)?;
+        gathered.add_line(
+            shelf,
+            Record::Member(number, classes.class_of(number), mark),
+        )?;
     }
     Ok(())
 }

@@ -148,13 +148,20 @@ fn carry_out<S: Shelf>(alloc: Global, request: Request<'_>, shelf: &mut S) -> Re
     ensures { Ran (Some (asked request.entry)) result (S.state shelf.old) (S.state shelf.new) }
 {
     match request {
-        Request::Gen(bench, output, budgets) => generate_file(alloc, shelf, bench, output, budgets),
-        Request::TopUp(bench, vectors, output, budgets) => {
-            top_up_file(alloc, shelf, bench, vectors, output, budgets)
-        }
-        Request::Check(bench, output) => check_result(alloc, shelf, bench, output),
-        Request::Compact(bench, result, new) => compact_result(alloc, shelf, bench, result, new),
-        Request::Synth(n, bench, output) => synthesize(alloc, shelf, n, bench, output),
+        Request::Gen {
+            bench,
+            result,
+            budgets,
+        } => generate_file(alloc, shelf, bench, result, budgets),
+        Request::TopUp {
+            bench,
+            vectors,
+            result,
+            budgets,
+        } => top_up_file(alloc, shelf, bench, vectors, result, budgets),
+        Request::Check { bench, result } => check_result(alloc, shelf, bench, result),
+        Request::Compact { bench, result, new } => compact_result(alloc, shelf, bench, result, new),
+        Request::Synth { n, bench, result } => synthesize(alloc, shelf, n, bench, result),
         _ => work_with_dictionaries(alloc, request, shelf),
     }
 }
@@ -170,14 +177,21 @@ fn work_with_dictionaries<S: Shelf>(
     ensures { Ran (Some (asked request.entry)) result (S.state shelf.old) (S.state shelf.new) }
 {
     match request {
-        Request::MakeDict(kind, bench, results, output) => {
-            make_dictionary(alloc, shelf, kind, bench, results, output)
-        }
-        Request::Convert(old, new) => convert_file(alloc, shelf, old, new),
-        Request::Diagnose(dict, log) => diagnose_log(alloc, shelf, dict, log),
-        Request::Rank(dict, log, within) => rank_log(alloc, shelf, dict, log, within),
-        Request::Adapt(bench, result, plan) => make_plan(alloc, shelf, bench, result, plan),
-        Request::Follow(plan, log) => follow_log(alloc, shelf, plan, log),
+        Request::MakeDict {
+            kind,
+            bench,
+            result,
+            dict,
+        } => make_dictionary(alloc, shelf, kind, bench, result, dict),
+        Request::Convert { old, new } => convert_file(alloc, shelf, old, new),
+        Request::Diagnose { dict, log } => diagnose_log(alloc, shelf, dict, log),
+        Request::Rank { dict, log, within } => rank_log(alloc, shelf, dict, log, within),
+        Request::Adapt {
+            bench,
+            result,
+            plan,
+        } => make_plan(alloc, shelf, bench, result, plan),
+        Request::Follow { plan, log } => follow_log(alloc, shelf, plan, log),
         _ => list(alloc, request, shelf),
     }
 }
@@ -190,16 +204,23 @@ fn list<S: Shelf>(alloc: Global, request: Request<'_>, shelf: &mut S) -> Result<
     ensures { Ran (Some (asked request.entry)) result (S.state shelf.old) (S.state shelf.new) }
 {
     match request {
-        Request::ListFaults(bench) => list_faults(alloc, shelf, bench),
-        Request::Simulate(bench, vectors) => simulate(alloc, shelf, bench, vectors),
-        Request::Expect(bench, result, log) => expect_log(alloc, shelf, bench, result, log),
-        Request::Suspects(bench, result, log, most) => {
-            list_suspects(alloc, shelf, bench, result, log, most)
-        }
-        Request::Cover(bench, result, log) => list_cover(alloc, shelf, bench, result, log),
-        Request::Bridges(bench, result, log, most, within) => {
-            list_bridges(alloc, shelf, bench, result, log, most, within)
-        }
+        Request::ListFaults { bench } => list_faults(alloc, shelf, bench),
+        Request::Simulate { bench, vectors } => simulate(alloc, shelf, bench, vectors),
+        Request::Expect { bench, result, log } => expect_log(alloc, shelf, bench, result, log),
+        Request::Suspects {
+            bench,
+            result,
+            log,
+            most,
+        } => list_suspects(alloc, shelf, bench, result, log, most),
+        Request::Cover { bench, result, log } => list_cover(alloc, shelf, bench, result, log),
+        Request::Bridges {
+            bench,
+            result,
+            log,
+            most,
+            within,
+        } => list_bridges(alloc, shelf, bench, result, log, most, within),
         _ => list_at(alloc, request, shelf),
     }
 }
@@ -213,18 +234,33 @@ fn list_at<S: Shelf>(alloc: Global, request: Request<'_>, shelf: &mut S) -> Resu
     ensures { Ran (Some (asked request.entry)) result (S.state shelf.old) (S.state shelf.new) }
 {
     match request {
-        Request::ExpectAt(bench, result, log, vectors) => {
-            expect_log_at(alloc, shelf, bench, result, log, vectors)
-        }
-        Request::SuspectsAt(bench, result, log, most, vectors) => {
-            list_suspects_at(alloc, shelf, bench, result, log, most, vectors)
-        }
-        Request::CoverAt(bench, result, log, vectors) => {
-            list_cover_at(alloc, shelf, bench, result, log, vectors)
-        }
-        Request::BridgesAt(bench, result, log, most, within, vectors) => {
-            list_bridges_at(alloc, shelf, bench, result, log, most, within, vectors)
-        }
+        Request::ExpectAt {
+            bench,
+            result,
+            log,
+            vectors,
+        } => expect_log_at(alloc, shelf, bench, result, log, vectors),
+        Request::SuspectsAt {
+            bench,
+            result,
+            log,
+            most,
+            vectors,
+        } => list_suspects_at(alloc, shelf, bench, result, log, most, vectors),
+        Request::CoverAt {
+            bench,
+            result,
+            log,
+            vectors,
+        } => list_cover_at(alloc, shelf, bench, result, log, vectors),
+        Request::BridgesAt {
+            bench,
+            result,
+            log,
+            most,
+            within,
+            vectors,
+        } => list_bridges_at(alloc, shelf, bench, result, log, most, within, vectors),
         _ => unreachable!(),
     }
 }

@@ -1,5 +1,6 @@
 -- Texts of lines, each with a row of bits.
 use Rattle.std.specs.Prelude.{◌≡◌, ℕ, ◌+◌, ◌<◌, ◌≤◌, Bool, List, [], ◌∷◌, ◌++◌, length, take, count_by, ◌==◌, ⊤}
+use Rattle.net_model.specs.Ascii.{line_feed}
 use Rattle.net_model.specs.Rows.{AreWide}
 use Rattle.text_fields.specs.Fields.{Text}
 use Rattle.diagnose.specs.declared.fault.LogKind.{LogKind}
@@ -14,7 +15,7 @@ text_limit = TEXT_LIMIT
 
 -- the line of a byte, counted from 1
 abbrev pub line_number : Text → ℕ → ℕ
-line_number text byte = count_by (λ b. b == 10) (take byte text) + 1
+line_number text byte = count_by (λ b. b == line_feed) (take byte text) + 1
 
 -- How a line with a row of bits is spelled, by its number, counted from 0, and its bits.
 abbrev pub LineForm : Type 0
@@ -23,7 +24,7 @@ LineForm = ℕ → List Bool → Text
 -- the lines of rows, numbered starting at `n`, each with its LF
 abbrev pub lines_from : LineForm → ℕ → List (List Bool) → Text
 lines_from line n [] = []
-lines_from line n (row ∷ rows) = line n row ++ 10 ∷ lines_from line (n + 1) rows
+lines_from line n (row ∷ rows) = line n row ++ line_feed ∷ lines_from line (n + 1) rows
 
 -- The text is the lines of these rows, each of this width, followed by `rest`.
 pub record BeginsWithRows (line : LineForm) (width : ℕ) (text : Text) (rows : List (List Bool)) (rest : Text) : Type 0 where

@@ -1,5 +1,6 @@
 -- Tester logs: a line for each pattern, with the pattern's number and the observed bits.
 use Rattle.std.specs.Prelude.{◌≡◌, ◌≢◌, ℕ, ◌<◌, ◌≤◌, ◌^◌, Bool, List, [], ◌∷◌, ◌++◌, length, decimal}
+use Rattle.net_model.specs.Ascii.{line_feed, space}
 use Rattle.net_model.specs.BitText.{bits_text}
 use Rattle.dict_rows.specs.Rows.{AreRows}
 use Rattle.diagnose.specs.declared.fault.LogKind.{LogKind}
@@ -9,7 +10,7 @@ use Rattle.diagnose.specs.Lines.{text_limit, lines_from, LinesRefused}
 
 -- a line of a log, without its LF
 abbrev pub log_line : ℕ → List Bool → Text
-log_line pattern bits = decimal pattern ++ 32 ∷ bits_text bits
+log_line pattern bits = decimal pattern ++ space ∷ bits_text bits
 
 -- The text is the log of these observed rows, one for each pattern, with a bit for each position, and isn't longer than
 -- the limit.
@@ -20,7 +21,7 @@ pub record IsLog (patterns positions : ℕ) (text : Text) (observed : List (List
 
 -- The text begins with the line of this pattern, which is below 2^32, and of these bits, and continues with `more`.
 abbrev pub BeginsWithLine : Text → ℕ → List Bool → Text → Type 0
-BeginsWithLine text pattern bits more = (pattern < 2 ^ 32) × (text ≡ log_line pattern bits ++ 10 ∷ more)
+BeginsWithLine text pattern bits more = (pattern < 2 ^ 32) × (text ≡ log_line pattern bits ++ line_feed ∷ more)
 
 -- The text begins with no line of a log.
 abbrev pub HasNoLine : Text → Type 0

@@ -1,5 +1,6 @@
 -- Lists of vectors: a line of bits for each.
 use Rattle.std.specs.Prelude.{◌≡◌, ◌≢◌, ℕ, ◌≤◌, Bool, List, [], ◌∷◌, ◌++◌, length}
+use Rattle.net_model.specs.Ascii.{line_feed}
 use Rattle.net_model.specs.BitText.{bits_text}
 use Rattle.net_model.specs.Rows.{AreWide}
 use Rattle.diagnose.specs.declared.fault.LogKind.{LogKind}
@@ -19,13 +20,13 @@ pub record IsVectorList (sources : ℕ) (text : Text) (vectors : List (List Bool
 
 -- The text begins with no line of bits.
 abbrev pub HasNoVector : Text → Type 0
-HasNoVector text = (bits : List Bool) (more : Text) → text ≢ bits_text bits ++ 10 ∷ more
+HasNoVector text = (bits : List Bool) (more : Text) → text ≢ bits_text bits ++ line_feed ∷ more
 
 -- The line of bits that a text begins with.
 pub record FirstVectorLine (text : Text) : Type 0 where
   pub bits : List Bool
   pub more : Text
-  pub begins : text ≡ bits_text bits ++ 10 ∷ more
+  pub begins : text ≡ bits_text bits ++ line_feed ∷ more
 
 -- The text isn't empty, and begins with no line of bits.
 pub record IsUnreadableVector (text : Text) : Type 0 where
@@ -45,5 +46,5 @@ VectorsRefused sources = LinesRefused listed_vector sources (VectorRestRefused s
 
 -- The text begins with a line of as many digits as there are sources, and continues with `rest`.
 pub record IsRightVector (sources : ℕ) (text digits rest : Text) : Type 0 where
-  pub begins : text ≡ bits_text (digit_bits digits) ++ 10 ∷ rest
+  pub begins : text ≡ bits_text (digit_bits digits) ++ line_feed ∷ rest
   pub width : length digits ≡ sources

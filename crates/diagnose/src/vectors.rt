@@ -1,6 +1,7 @@
 //! Lists of vectors.
 
 ghost use Rattle.std.specs.Prelude.{◌≡◌, ◌≢◌, ◌≤◌, ◌++◌, ◌∷◌, [], ℕ, length, IfOk, IfErr, MatchOption, MatchResult};
+ghost use Rattle.net_model.specs.Ascii.{line_feed};
 ghost use Rattle.net_model.specs.BitText.{bits_text};
 ghost use Rattle.text_fields.specs.Fields.{digit_bits};
 ghost use Rattle.diagnose.specs.Lines.{text_limit, TellsLogFault};
@@ -60,7 +61,7 @@ fn right_vector(sources: u32, rest: &[u8]) -> Result<(&[u8], &[u8]), LogKind>
 
 // Returns the digits of the line that a text begins with, and what is after it.
 fn first_vector(text: &[u8]) -> Option<(&[u8], &[u8])>
-    ensures { MatchOption result (HasNoVector text.now) (λ line. text.now ≡ bits_text (digit_bits line.0.now) ++ 10 ∷ line.1.now) }
+    ensures { MatchOption result (HasNoVector text.now) (λ line. text.now ≡ bits_text (digit_bits line.0.now) ++ line_feed ∷ line.1.now) }
 {
     let (line, rest) = cut(text, b'\n')?;
     let digits = digits_of(line)?;

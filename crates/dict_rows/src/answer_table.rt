@@ -14,7 +14,7 @@ use std::marker::Model;
 
 /// A table with a bit for each pattern, fault number and position: what the number answers to the pattern at the
 /// position.
-#[derive(Drop)]
+#[derive(Debug, Drop)]
 pub struct AnswerTable {
     // A row for each number: its answers, pattern by pattern.
     cells: AnswerRows,

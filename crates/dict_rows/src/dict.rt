@@ -16,7 +16,7 @@ pub enum DictKind {
 }
 
 /// A group number for each fault number.
-#[derive(Drop)]
+#[derive(Debug, Drop)]
 pub struct Groups {
     groups: Vec<u32>,
 }
@@ -63,6 +63,7 @@ impl Model for Groups {
 
 /// A fault dictionary: the entry of a fault number is the row of its group. A full dictionary has no baselines; each
 /// other kind has a baseline of `positions` bits for each pattern.
+#[derive(Debug)]
 pub struct Dict {
     pub kind: DictKind,
     pub positions: u32,

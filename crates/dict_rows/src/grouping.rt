@@ -14,7 +14,7 @@ use std::alloc::{AllocError, Global};
 use std::collections::BTreeMap;
 
 /// Rows in groups: the group of each row, and one row for each group.
-#[derive(Drop)]
+#[derive(Debug, Drop)]
 pub struct Grouped {
     pub groups: Groups,
     pub entries: AnswerRows,
@@ -48,7 +48,7 @@ pub fn first_repeat(alloc: Global, rows: &AnswerRows) -> Result<Option<u32>, All
 }
 
 /// The group of each row, and for each group the place of a row that is equal to its rows.
-#[derive(Drop)]
+#[derive(Debug, Drop)]
 pub struct Sorted {
     pub groups: Groups,
     pub firsts: Vec<u32>,

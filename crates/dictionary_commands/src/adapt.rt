@@ -1,13 +1,12 @@
 //! The command `adapt`: from the bytes of a netlist and a result to an adaptive plan.
 
-ghost use Rattle.std.specs.Prelude.{◌≡◌, ◌<◌, ℕ, List, IfOk, string_bytes, [], ◌∷◌};
+ghost use Rattle.std.specs.Prelude.{◌≡◌, ◌<◌, IfOk, string_bytes, [], ◌∷◌};
 ghost use Rattle.adaptive_tree.specs.PlanNode.{HasNode, ask_count, depth_of};
 ghost use Rattle.adaptive_tree.specs.PlanText.{plan_text};
 ghost use Rattle.adaptive_tree.specs.WellFormed.{IsWellFormed};
 ghost use Rattle.table_dicts.specs.Setting.{IsSetting};
-ghost use Rattle.dictionary_commands.specs.AdaptivePlans.{IsPlanOf, IsPlanFileOf, IsMadePlan};
+ghost use Rattle.dictionary_commands.specs.AdaptivePlans.{IsPlanOf, IsPlanFileOf};
 ghost use Rattle.dictionary_commands.specs.Plans.{adapt_plan};
-ghost use Rattle.run_steps.specs.Plans.{makes_file, with_result};
 ghost use Rattle.run_steps.specs.Ran.{Follows, result_endings};
 ghost use Rattle.dictionary_commands.specs.Texts.{plan_counts_text};
 
@@ -34,21 +33,8 @@ pub fn make_plan<S: Shelf>(
 {
     let design = read_design(alloc, shelf, bench)?;
     let subject = Subject::new(alloc, &design.circuit)?;
-    make_for(alloc, shelf, &subject, results, output)
-}
-
-// Reads and judges the result for a circuit, and writes the plan for its classes.
-fn make_for<S: Shelf>(
-    alloc: Global,
-    shelf: &mut S,
-    subject: &Subject,
-    results: &str,
-    output: &str,
-) -> Result<(), RunFault>
-    ensures { Follows (with_result results.now subject.now (λ (file : List ℕ). makes_file output.now (IsMadePlan subject.now file))) result_endings (output.now ∷ []) result (S.state shelf.old) (S.state shelf.new) }
-{
-    let checked = read_result(alloc, shelf, subject, results)?;
-    let setting = setting_of(subject, &checked);
+    let checked = read_result(alloc, shelf, &subject, results)?;
+    let setting = setting_of(&subject, &checked);
     let made = made_of(alloc, &setting)?;
     save(shelf, output, &made.file, made.text.as_bytes())
 }

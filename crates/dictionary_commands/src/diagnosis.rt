@@ -1,11 +1,10 @@
 //! The command `diagnose`: the numbers that a dictionary and a log point to.
 
-ghost use Rattle.std.specs.Prelude.{◌≡◌, ◌++◌, Bool, List, IfOk, OnOk, flat_map, []};
+ghost use Rattle.std.specs.Prelude.{◌≡◌, ◌++◌, IfOk, OnOk, flat_map, []};
 ghost use Rattle.dict_rows.specs.Rows.{AreRows};
 ghost use Rattle.dict_file.specs.Spelling.{HasDictSpelling};
 ghost use Rattle.dictionary_commands.specs.Dictionaries.{IsDiagnosis};
 ghost use Rattle.dictionary_commands.specs.Plans.{diagnose_plan};
-ghost use Rattle.run_steps.specs.Plans.{says, with_log};
 ghost use Rattle.run_steps.specs.Ran.{Follows, dictionary_log_endings};
 ghost use Rattle.dictionary_commands.specs.Texts.{number_line};
 
@@ -28,21 +27,8 @@ pub fn diagnose_log<S: Shelf>(
     ensures { Follows (diagnose_plan dict.now log.now) dictionary_log_endings [] result (S.state shelf.old) (S.state shelf.new) }
 {
     let dict = read_dictionary(alloc, shelf, dict)?;
-    diagnose_by(alloc, shelf, &dict, log)
-}
-
-// Reads and judges the log, and prints the numbers that the dictionary and the log point to.
-fn diagnose_by<S: Shelf>(
-    alloc: Global,
-    shelf: &mut S,
-    dict: &Dict,
-    log: &str,
-) -> Result<(), RunFault>
-    requires { HasDictSpelling dict.now }
-    ensures { Follows (with_log log.now dict.now (λ (observed : List (List Bool)). says (IsDiagnosis dict.now observed))) dictionary_log_endings [] result (S.state shelf.old) (S.state shelf.new) }
-{
-    let observed = read_observed(alloc, shelf, dict, log)?;
-    let text = diagnosis(alloc, dict, &observed)?;
+    let observed = read_observed(alloc, shelf, &dict, log)?;
+    let text = diagnosis(alloc, &dict, &observed)?;
     say(shelf, &text)
 }
 

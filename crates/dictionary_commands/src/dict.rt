@@ -1,15 +1,14 @@
 //! The command `dict`: from the bytes of a netlist and a result to a dictionary.
 
-ghost use Rattle.std.specs.Prelude.{◌≡◌, ℕ, List, IfOk, length, string_bytes, [], ◌∷◌};
+ghost use Rattle.std.specs.Prelude.{◌≡◌, IfOk, length, string_bytes, [], ◌∷◌};
 ghost use Rattle.net_model.specs.Circuit.{IsCircuit};
 ghost use Rattle.class_refine.specs.Fields.{IsWhole};
 ghost use Rattle.dict_rows.specs.Dictionary.{IsGroupedDict, IsShaped};
 ghost use Rattle.table_dicts.specs.Setting.{IsSetting};
 ghost use Rattle.dict_file.specs.declared.fault.DictVersion.TheVariants.{Two};
 ghost use Rattle.dict_file.specs.Spelling.{dict_spelling};
-ghost use Rattle.dictionary_commands.specs.Dictionaries.{IsOfPatterns, KeepsMostApart, IsMadeOf, IsMadeDictionary, dictionary_counts};
+ghost use Rattle.dictionary_commands.specs.Dictionaries.{IsOfPatterns, KeepsMostApart, IsMadeOf, dictionary_counts};
 ghost use Rattle.dictionary_commands.specs.Plans.{dict_plan};
-ghost use Rattle.run_steps.specs.Plans.{makes_file, with_result};
 ghost use Rattle.run_steps.specs.Ran.{Follows, result_endings};
 
 use crate::texts::apart_text;
@@ -49,22 +48,8 @@ pub fn make_dictionary<S: Shelf>(
 {
     let design = read_design(alloc, shelf, bench)?;
     let subject = Subject::new(alloc, &design.circuit)?;
-    make_for(alloc, shelf, kind, &subject, results, output)
-}
-
-// Reads and judges the result for a circuit, and makes a dictionary of this kind under the dictionary's name.
-fn make_for<S: Shelf>(
-    alloc: Global,
-    shelf: &mut S,
-    kind: EntryKind,
-    subject: &Subject,
-    results: &str,
-    output: &str,
-) -> Result<(), RunFault>
-    ensures { Follows (with_result results.now subject.now (λ (file : List ℕ). makes_file output.now (IsMadeDictionary subject.now kind file))) result_endings (output.now ∷ []) result (S.state shelf.old) (S.state shelf.new) }
-{
-    let checked = read_result(alloc, shelf, subject, results)?;
-    let setting = setting_of(subject, &checked);
+    let checked = read_result(alloc, shelf, &subject, results)?;
+    let setting = setting_of(&subject, &checked);
     let made = made_of(alloc, kind, &setting)?;
     save(shelf, output, &made.file, made.text.as_bytes())
 }

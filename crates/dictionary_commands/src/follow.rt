@@ -1,15 +1,10 @@
 //! The command `follow`: from the bytes of an adaptive plan and a log of answers to where they lead.
 
 ghost use Rattle.std.specs.Prelude.{[]};
-ghost use Rattle.adaptive_tree.specs.declared.outcome.Outcome.{Outcome as WalkOutcome};
-ghost use Rattle.adaptive_tree.specs.WellFormed.{IsWellFormed};
-ghost use Rattle.dictionary_commands.specs.AdaptivePlans.{IsOutcomeText};
 ghost use Rattle.dictionary_commands.specs.Plans.{follow_plan};
-ghost use Rattle.run_steps.specs.Plans.{says, with_walk};
 ghost use Rattle.run_steps.specs.Ran.{Follows, walk_endings};
 
 use crate::texts::outcome_text;
-use adaptive_tree::Plan;
 use diag_shelf::Shelf;
 use run_steps::{RunFault, read_adaptive_plan, read_walk, say};
 use std::alloc::Global;
@@ -26,20 +21,7 @@ pub fn follow_log<S: Shelf>(
     ensures { Follows (follow_plan plan.now log.now) walk_endings [] result (S.state shelf.old) (S.state shelf.new) }
 {
     let adaptive = read_adaptive_plan(alloc, shelf, plan)?;
-    follow_by(alloc, shelf, &adaptive, log)
-}
-
-// Reads and judges the log, and prints where it leads in a plan.
-fn follow_by<S: Shelf>(
-    alloc: Global,
-    shelf: &mut S,
-    adaptive: &Plan,
-    log: &str,
-) -> Result<(), RunFault>
-    requires { IsWellFormed adaptive.now }
-    ensures { Follows (with_walk log.now adaptive.now (λ (outcome : WalkOutcome). says (IsOutcomeText outcome))) walk_endings [] result (S.state shelf.old) (S.state shelf.new) }
-{
-    let outcome = read_walk(alloc, shelf, adaptive, log)?;
+    let outcome = read_walk(alloc, shelf, &adaptive, log)?;
     let text = outcome_text(alloc, outcome)?;
     say(shelf, text.as_bytes())
 }

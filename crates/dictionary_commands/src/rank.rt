@@ -1,10 +1,9 @@
 //! The command `rank`: the numbers whose entries are nearest to what a partial log says.
 
-ghost use Rattle.std.specs.Prelude.{◌≡◌, ◌++◌, List, IfOk, OnOk, flat_map, string_bytes, []};
+ghost use Rattle.std.specs.Prelude.{◌≡◌, ◌++◌, IfOk, OnOk, flat_map, string_bytes, []};
 ghost use Rattle.dict_file.specs.Spelling.{HasDictSpelling};
-ghost use Rattle.ranked_diag.specs.PartialLog.{Line, ArePartial};
+ghost use Rattle.ranked_diag.specs.PartialLog.{ArePartial};
 ghost use Rattle.dictionary_commands.specs.Plans.{rank_plan};
-ghost use Rattle.run_steps.specs.Plans.{says, with_partial};
 ghost use Rattle.run_steps.specs.Ran.{Follows, dictionary_log_endings};
 ghost use Rattle.dictionary_commands.specs.Rankings.{IsRankText};
 ghost use Rattle.dictionary_commands.specs.Texts.{rank_line, ranks_text};
@@ -28,22 +27,8 @@ pub fn rank_log<S: Shelf>(
     ensures { Follows (rank_plan dict.now log.now within) dictionary_log_endings [] result (S.state shelf.old) (S.state shelf.new) }
 {
     let dict = read_dictionary(alloc, shelf, dict)?;
-    rank_by(alloc, shelf, &dict, log, within)
-}
-
-// Reads and judges the partial log, and prints the numbers that the dictionary ranks by it.
-fn rank_by<S: Shelf>(
-    alloc: Global,
-    shelf: &mut S,
-    dict: &Dict,
-    log: &str,
-    within: u32,
-) -> Result<(), RunFault>
-    requires { HasDictSpelling dict.now }
-    ensures { Follows (with_partial log.now dict.now (λ (lines : List Line). says (IsRankText dict.now lines within))) dictionary_log_endings [] result (S.state shelf.old) (S.state shelf.new) }
-{
     let partial = read_partial_log(alloc, shelf, dict.patterns, dict.positions, log)?;
-    let text = ranked_text(alloc, dict, &partial, within)?;
+    let text = ranked_text(alloc, &dict, &partial, within)?;
     say(shelf, text.as_bytes())
 }
 

@@ -9,7 +9,7 @@ use std::marker::Model;
 
 /// The level of each line of a circuit: 0 for a source, and for a gate one more than the highest level of its pins.
 /// They are computed once for a circuit, and serve every search in it.
-#[derive(Drop)]
+#[derive(Debug, Drop)]
 pub struct Levels {
     levels: Vec<u32>,
 }

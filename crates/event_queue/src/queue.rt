@@ -1,13 +1,13 @@
 //! `NumberQueue`: numbers below a count, in words of 64 bits; the lowest that waits is taken first.
 
-ghost use Rattle.std.specs.Prelude.{◌≡◌, ◌≢◌, ◌<◌, ◌≤◌, ◌*◌, ◌^◌, ◌⊎◌, ℕ, true, false, length, slice_index, All, Contains, IfOk, MatchOption};
+ghost use Rattle.std.specs.Prelude.{◌≡◌, ◌≢◌, ◌<◌, ◌≤◌, ◌*◌, ◌^◌, ◌⊎◌, ℕ, true, false, length, slice_index, All, Contains, IfOk, IfSome, MatchOption};
 ghost use Rattle.event_queue.specs.Pending.{is_pending, IsEmpty, IsLowest};
 
 use std::alloc::{AllocError, Global};
 use std::marker::Model;
 
 /// A set of numbers that wait, all below a count.
-#[derive(Drop)]
+#[derive(Debug, Drop)]
 pub struct NumberQueue {
     words: Vec<u64>,
     count: usize,
@@ -88,6 +88,8 @@ impl NumberQueue {
         requires { (n : ℕ) → n < from → is_pending self.old n ≡ false }
         ensures room { length self.new ≡ length self.old }
         ensures cases { MatchOption result (IsEmpty self.old × IsEmpty self.new) (IsLowest self.old self.new) }
+        ensures above { IfSome result (λ lowest. from ≤ lowest) }
+        ensures within { IfSome result (λ lowest. lowest < length self.old) }
     {
         let at = first_word(
             self.words.as_slice(),

@@ -4,8 +4,7 @@ use Rattle.std.proofs.Common.{◌≡◌, ◌∙◌, ℕ, zero, suc, ◌<◌, Boo
 use Rattle.std.specs.Prelude.{Option, None, Some, Contains, slice_get, unwrap_or, ◌&&◌}
 use Rattle.std.specs.Bool.{then_some}
 use Rattle.std.specs.Option.{option_map_or}
-use Rattle.std.proofs.lemmas.Bool.{eqb-true, and_from, and_left, and_parts}
-use Rattle.std.proofs.lemmas.Bool.Decides.{nat_tests}
+use Rattle.std.proofs.lemmas.Bool.{eqb-true, eq-eqb, and_from, and_left, and_parts}
 use Rattle.std.proofs.lemmas.List.Elements.{All-contains}
 use Rattle.net_model.specs.declared.gate.Gate.{Gate}
 use Rattle.net_model.specs.declared.fault.Site.{Site}
@@ -45,15 +44,12 @@ module _ (c : Circuit) (w : IsCircuit c) where
 
 -- ---- tests
 
-same_number : (n : ℕ) → eqb n n ≡ true
-same_number n = grind (arith, nat_tests)
-
 -- ---- from a pin to the stem of its gate
 
 module _ (c : Circuit) (w : IsCircuit c) (line pin : ℕ) (bit value : Bool) (gate : Gate) (drives : gate_at c line ≡ Some gate) (within : pin < length gate.pins) (carries : carried_value gate.kind (length gate.pins) bit ≡ Some value) (v bits : List Bool) (a : Agrees c (Stuck (Pin line pin) bit) v bits) where
   pin_sees : slice_get (seen_bits (stuck_pin (Stuck (Pin line pin) bit) line) bits gate.pins) pin ≡ Some bit
   pin_sees =
-      let here = and_from (eqb line line) (eqb pin pin) (same_number line) (same_number pin) in
+      let here = and_from (eqb line line) (eqb pin pin) (eq-eqb line line refl) (eq-eqb pin pin refl) in
       seen_at (stuck_pin (Stuck (Pin line pin) bit) line) bits gate.pins pin within ∙ ap (λ b. Some (unwrap_or (then_some b bit) (bit_at bits (get_or gate.pins pin 0)))) here
 
   -- the line has the carried value
@@ -97,7 +93,7 @@ module _ (c : Circuit) (w : IsCircuit c) (line gate pin : ℕ) (bit : Bool) (ins
 
   stem_is_stuck : bit_at x line ≡ bit
   unfolding line_bit
-  stem_is_stuck = a.each line inside ∙ ap (λ t. unwrap_or (then_some t bit) (driven_bit c (Stuck (Stem line) bit) v x line)) (same_number line)
+  stem_is_stuck = a.each line inside ∙ ap (λ t. unwrap_or (then_some t bit) (driven_bit c (Stuck (Stem line) bit) v x line)) (eq-eqb line line refl)
 
   -- a pin that isn't the sole destination reads another line
   other_read : (reader place read : ℕ) → slice_get (pins_of c reader) place ≡ Some read → (eqb gate reader && eqb pin place) ≡ false → (same : Bool) → eqb line read ≡ same → same ≡ false
@@ -107,7 +103,7 @@ module _ (c : Circuit) (w : IsCircuit c) (line gate pin : ℕ) (bit : Bool) (ins
       let site = only_destination (Pin reader place) (pin_is_destination c line reader place (there ∙ ap Some (sym is))) in
       let g : reader ≡ gate = cc in
       let p : place ≡ pin = cc in
-      let here = and_from (eqb gate reader) (eqb pin place) (rw g (same_number gate)) (rw p (same_number pin)) in
+      let here = and_from (eqb gate reader) (eqb pin place) (rw g (eq-eqb gate gate refl)) (rw p (eq-eqb pin pin refl)) in
       let clash : ◌≡◌ {A = Bool} true false = sym here ∙ not_here in
       cc
 

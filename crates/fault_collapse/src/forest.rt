@@ -17,7 +17,7 @@ use std::marker::Model;
 /// The successors and roots of a circuit's faults, by number. A fault at a gate pin, or at a stem whose sole
 /// destination is a gate pin, has the equal fault at the gate's output as its successor, if it alone decides that
 /// output. The root of a fault is the last fault of its chain of successors.
-#[derive(Drop)]
+#[derive(Debug, Drop)]
 pub struct Forest {
     successors: Vec<Option<u32>>,
     roots: Vec<u32>,

@@ -17,7 +17,7 @@ use std::marker::Model;
 
 /// A circuit with the list of its faults and the forest in which they collapse. It is made once, and lent to all code
 /// that deals with the circuit's faults.
-#[derive(Drop)]
+#[derive(Debug, Drop)]
 pub struct Subject<'a> {
     circuit: &'a Circuit,
     listed: FaultList,

@@ -9,7 +9,7 @@ use net_model::Circuit;
 use std::alloc::{AllocError, Global};
 
 /// A pin of a gate. A gate has the number of the line that it drives.
-#[derive(Clone, Copy)]
+#[derive(Clone, Copy, Debug)]
 pub(crate) struct GatePin {
     pub(crate) gate: u32,
     pub(crate) pin: u32,

@@ -10,7 +10,7 @@ pub enum Head {
 }
 
 /// The head that a fault turns, and in which lanes of a block it turns it.
-#[derive(Clone, Copy)]
+#[derive(Clone, Copy, Debug)]
 pub struct Turn {
     pub head: Head,
     pub lanes: Lanes,

@@ -19,6 +19,7 @@ use word_sim::{GoodSim, Lanes};
 /// For each line the head at the end of its way, and in which vectors of a block turning the line turns this head. If a
 /// line's only destination is a pin of a gate, its way goes on with the gate's line. Every other line is the end of its
 /// own way.
+#[derive(Debug)]
 pub struct Heads<'a> {
     circuit: &'a Circuit,
     destinations: Vec<Option<GatePin>>,

@@ -25,7 +25,8 @@ none_pass : {A : Type 0} (xs : List A) → list_any (λ x. false) xs ≡ false
 none_pass [] = refl
 none_pass (x ∷ xs) = none_pass xs
 
-or_exchange : (a b c d : Bool) → ((a || b) || (c || d)) ≡ ((a || c) || (b || d))
+-- the middle two change places
+pub or_exchange : (a b c d : Bool) → ((a || b) || (c || d)) ≡ ((a || c) || (b || d))
 or_exchange true b c d = refl
 or_exchange false true true d = refl
 or_exchange false true false d = refl

@@ -1,6 +1,7 @@
 -- The names of faults.
 use Rattle.std.specs.Prelude.{ℕ, List, [], ◌∷◌, ◌++◌, slice_index, slice_index_or, codes, decimal}
 use Rattle.std.specs.List.{join_with_byte}
+use Rattle.net_model.specs.Ascii.{space}
 use Rattle.net_model.specs.declared.fault.Site.{Site}
 use Rattle.net_model.specs.declared.fault.Site.TheVariants.{Stem, Pin, Position}
 use Rattle.net_model.specs.declared.fault.Fault.{Fault}
@@ -27,4 +28,4 @@ module _ (c : Circuit) (names : List (List ℕ)) where
   -- the name of a fault: the kind of its site, the line, which reader of the line it is, and the stuck value, with one
   -- blank between two fields
   abbrev pub fault_name : Fault → List ℕ
-  fault_name fault = join_with_byte 32 (name_fields fault)
+  fault_name fault = join_with_byte space (name_fields fault)

@@ -2,6 +2,7 @@
 
 ghost use Rattle.std.specs.Prelude.{◌≡◌, ◌<◌, ◌++◌, ◌∷◌, IfOk, OnOk, decimal, false, length, slice_index};
 ghost use Rattle.std.specs.List.{join_with_byte};
+ghost use Rattle.net_model.specs.Ascii.{space};
 ghost use Rattle.net_model.specs.Circuit.{line_count, pins_of};
 ghost use Rattle.net_model.specs.Fault.{IsFaultOf};
 ghost use Rattle.fault_list.specs.Names.{fault_name, site_fields};
@@ -31,7 +32,7 @@ pub fn name_text(alloc: Global, design: &Design, fault: &Fault) -> Result<Vec<u8
 fn site_text(alloc: Global, design: &Design, site: Site) -> Result<Vec<u8>, AllocError>
     requires fault { IsFaultOf design.now.circuit (Fault.Stuck site false) }
     requires names { length design.now.names ≡ line_count design.now.circuit }
-    ensures { IfOk result (λ text. text.items ≡ join_with_byte 32 (site_fields design.now.circuit design.now.names site)) }
+    ensures { IfOk result (λ text. text.items ≡ join_with_byte space (site_fields design.now.circuit design.now.names site)) }
 {
     let mut text = Vec::new(alloc);
     add_site(&mut text, design, site)?;
@@ -42,7 +43,7 @@ fn site_text(alloc: Global, design: &Design, site: Site) -> Result<Vec<u8>, Allo
 fn add_site(text: &mut Vec<u8>, design: &Design, site: Site) -> Result<(), AllocError>
     requires fault { IsFaultOf design.now.circuit (Fault.Stuck site false) }
     requires names { length design.now.names ≡ line_count design.now.circuit }
-    ensures { OnOk result (text.new.items ≡ text.old.items ++ join_with_byte 32 (site_fields design.now.circuit design.now.names site)) }
+    ensures { OnOk result (text.new.items ≡ text.old.items ++ join_with_byte space (site_fields design.now.circuit design.now.names site)) }
 {
     let names = &design.names;
     match site {
@@ -76,7 +77,7 @@ fn read_line(circuit: &Circuit, gate: u32, pin: u32) -> u32
 
 // Adds a blank and a field.
 fn add_field(text: &mut Vec<u8>, field: &[u8]) -> Result<(), AllocError>
-    ensures { OnOk result (text.new.items ≡ text.old.items ++ 32 ∷ field.now) }
+    ensures { OnOk result (text.new.items ≡ text.old.items ++ space ∷ field.now) }
 {
     text.push(b' ')?;
     text.extend_from_slice(field)
@@ -84,7 +85,7 @@ fn add_field(text: &mut Vec<u8>, field: &[u8]) -> Result<(), AllocError>
 
 // Adds a blank and the decimal digits of a number.
 fn add_number(text: &mut Vec<u8>, number: u32) -> Result<(), AllocError>
-    ensures { OnOk result (text.new.items ≡ text.old.items ++ 32 ∷ decimal number) }
+    ensures { OnOk result (text.new.items ≡ text.old.items ++ space ∷ decimal number) }
 {
     let digits = number.to_string(*text.allocator())?;
     add_field(text, digits.as_bytes())

@@ -15,7 +15,7 @@ use std::marker::Model;
 const FAN_OUT: usize = 2;
 
 /// The faults of a circuit in order of their numbers. Number 0 is the fault-free circuit.
-#[derive(Drop)]
+#[derive(Debug, Drop)]
 pub struct FaultList {
     sites: Vec<Site>,
     starts: Vec<u32>,

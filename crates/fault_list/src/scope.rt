@@ -16,7 +16,7 @@ use std::marker::Model;
 /// a split line or is the site of one of the faults. The lines of reached positions are relevant, and so are all lines
 /// that lead to them. The program has scopes from `pair_scope`, which keeps its space from pair to pair; this one is
 /// for tests and for callers from outside.
-#[derive(Drop)]
+#[derive(Debug, Drop)]
 pub struct Scope {
     split: Vec<bool>,
     relevant: Vec<bool>,

@@ -8,7 +8,7 @@ use std::marker::Model;
 use word_sim::Lanes;
 
 /// A row of lanes for each number, false unless it was set.
-#[derive(Drop)]
+#[derive(Debug, Drop)]
 pub(crate) struct Rows {
     rows: Vec<Lanes>,
     listed: Vec<u32>,

@@ -20,6 +20,7 @@ use word_sim::{GoodSim, LANES, Lanes};
 
 /// Where the answers under the fault that was injected last, or with the head that was turned last, differ from the
 /// fault-free ones, in each lane.
+#[derive(Debug)]
 pub struct FaultSim<'a> {
     circuit: &'a Circuit,
     queue: NumberQueue,

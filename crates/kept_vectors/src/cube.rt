@@ -9,7 +9,7 @@ use std::marker::Model;
 use word_sim::{Block, Lanes};
 
 /// A bit for each source, or none if the source is free.
-#[derive(Drop)]
+#[derive(Debug, Drop)]
 pub struct Cube {
     bits: Vec<Option<bool>>,
 }

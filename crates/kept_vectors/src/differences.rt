@@ -27,6 +27,7 @@ use word_sim::{GoodSim, LANES, Lanes};
 // What was noted of the answers of numbers to the vectors of a block. The places of heads are the lines and then the
 // positions. `numbers` are the units that were asked, and `turns` has what each of these turns. For each place `needs`
 // has the lanes in which its head is needed, and `shown` what the head shows. A number answers as its unit.
+#[derive(Debug)]
 pub(crate) struct Differences<'a> {
     pub(crate) lines: u32,
     pub(crate) heads: Heads<'a>,

@@ -21,6 +21,7 @@ use word_sim::{Block, LANES, Stream, stream_continues};
 /// The vectors that are kept for a circuit, and the classes of fault numbers that they tell apart. Vectors come one
 /// after another, and each that splits a class of those kept before it is kept. A block of vectors of cubes is looked
 /// at first, which simulates it once; then a vector of it is kept for one number after another.
+#[derive(Debug)]
 pub struct Keeper<'a> {
     scan: Scan<'a>,
     kept: Kept,

@@ -13,14 +13,14 @@ use std::alloc::AllocError;
 use word_sim::{GoodSim, LANES, Lanes};
 
 // A position at which the answers with a head turned differ from the fault-free ones, and in which lanes.
-#[derive(Clone, Copy)]
+#[derive(Clone, Copy, Debug)]
 pub(crate) struct Note {
     pub(crate) position: u32,
     pub(crate) lanes: Lanes,
 }
 
 // The part of the notes that is a head's, from `start` to before `end`, and the lanes in which the head shows at all.
-#[derive(Clone, Copy)]
+#[derive(Clone, Copy, Debug)]
 pub(crate) struct Shown {
     pub(crate) start: usize,
     pub(crate) end: usize,

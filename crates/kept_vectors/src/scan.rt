@@ -24,7 +24,7 @@ use std::alloc::{AllocError, Global};
 use word_sim::{Block, GoodSim, LANES, Lanes};
 
 // The kept vectors, and their classes.
-#[derive(Drop)]
+#[derive(Debug, Drop)]
 pub(crate) struct Kept {
     pub(crate) vectors: Vec<Vector>,
     pub(crate) classes: Classes,
@@ -60,6 +60,7 @@ impl Kept {
 // simulator of faults with what they showed, the units that wait at the lanes at which they leave their classes, the
 // numbers that leave at one lane, the counts for each lane, and for a standing block the lanes at which each unit
 // leaves its class.
+#[derive(Debug)]
 pub(crate) struct Scan<'a> {
     pub(crate) listed: &'a FaultList,
     pub(crate) block: Block,

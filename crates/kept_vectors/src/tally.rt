@@ -11,7 +11,7 @@ use word_sim::{LANES, Lanes};
 const DIGITS: usize = 27;
 
 // A count for each lane: its binary digits, the lowest first.
-#[derive(Drop)]
+#[derive(Debug, Drop)]
 pub(crate) struct Tally {
     digits: Vec<Lanes>,
 }

@@ -8,6 +8,7 @@ use std::alloc::{AllocError, Global};
 
 // The unit of each number is its root. The numbers of a unit are a chain: `firsts` has the lowest number of each unit,
 // and `nexts` the next one after each number. After the last comes the count of all numbers.
+#[derive(Debug)]
 pub(crate) struct Units<'a> {
     pub(crate) roots: &'a [u32],
     pub(crate) firsts: Vec<u32>,

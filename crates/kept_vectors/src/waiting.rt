@@ -18,7 +18,7 @@ use std::marker::Model;
 use word_sim::{GoodSim, LANES, Lanes};
 
 // The numbers that wait at one lane.
-#[derive(Drop)]
+#[derive(Debug, Drop)]
 pub(crate) struct Waiters {
     numbers: Vec<u32>,
 }
@@ -61,7 +61,7 @@ impl Waiters {
 }
 
 // For each lane the units that wait there.
-#[derive(Drop)]
+#[derive(Debug, Drop)]
 pub(crate) struct Waiting {
     pub(crate) lanes: Vec<Waiters>,
 }

@@ -6,7 +6,7 @@ ghost use Rattle.member_marks.specs.Counts.{none_counted, counted_with};
 use result_records::Mark;
 
 /// How many members are marked equal, and how many are left open.
-#[derive(Clone, Copy)]
+#[derive(Clone, Copy, Debug)]
 pub struct MarkCounts {
     pub equal: u32,
     pub spent: u32,

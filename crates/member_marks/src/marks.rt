@@ -11,7 +11,7 @@ use std::alloc::{AllocError, Global};
 use std::marker::Model;
 
 /// The mark that the last evidence about a number gives it, with the representative that the evidence names.
-#[derive(Clone, Copy)]
+#[derive(Clone, Copy, Debug)]
 pub struct Given {
     pub partner: u32,
     pub mark: Mark,
@@ -19,7 +19,7 @@ pub struct Given {
 
 /// What was given to each number so far. A mark counts only while the number has the representative with which it was
 /// given.
-#[derive(Drop)]
+#[derive(Debug, Drop)]
 pub struct Marks {
     given: Vec<Option<Given>>,
 }

@@ -1,9 +1,10 @@
 -- Tests of the elements of a list, and the elements that pass.
 use Rattle.std.proofs.Common.{◌≡◌, ◌∙◌, ℕ, zero, suc, ◌≤◌, ◌⊎◌, inl, inr, refl, sym, ap, arith, subst}
-use Rattle.std.specs.Prelude.{Bool, true, false, Option, List, [], ◌∷◌, length, map, filter, flat_map, cond, None, is_some, get_or, replicate, slice_get, ◌||◌, Contains, All, Some, ◌++◌, find}
+use Rattle.std.specs.Prelude.{Bool, true, false, Option, List, [], ◌∷◌, length, map, filter, flat_map, cond, None, is_some, get_or, replicate, slice_get, ◌||◌, ◌==◌, Contains, All, Some, ◌++◌, find}
 use Rattle.std.specs.List.{list_all, list_any}
 use Rattle.std.proofs.lemmas.Bool.{and_from, and_parts, cases_Bool}
-use Rattle.std.proofs.lemmas.List.Elements.{All-contains, All-contains_itself, All-filter, Contains-append_left, Contains-append_right, filter_passes, All-tail}
+use Rattle.std.proofs.lemmas.Bool.Decides.{nat_tests}
+use Rattle.std.proofs.lemmas.List.Elements.{All-contains, All-contains_itself, All-filter, Contains-append_cases, Contains-append_left, Contains-append_right, filter_passes, All-tail}
 use Rattle.std.proofs.lemmas.List.Folds.{list_any_at, Any-from_list_any}
 use Rattle.std.proofs.lemmas.List.{length-append, get_or_append_left}
 use Rattle.std.proofs.lemmas.List.Sums.{length-filter, count_by-le-length}
@@ -13,6 +14,9 @@ use Rattle.net_model.proofs.Copies.{later}
 
 pub true_false : {P : Type 0} (b : Bool) → b ≡ true → b ≡ false → P
 true_false b t f = absurd (let e : ◌≡◌ {A = Bool} true false = sym t ∙ f in cc)
+
+pub eq-comm : (m n : ℕ) → (m == n) ≡ (n == m)
+eq-comm m n = grind (arith, nat_tests)
 
 pub none_is : {A : Type 0} (o : Option A) → is_some o ≡ false → o ≡ None
 none_is None none = refl
@@ -43,11 +47,25 @@ Contains-map f [] x m = absurd (none_in x m)
 Contains-map f (y ∷ ys) x (zero, h, e) = (0, omega arith, ap f e)
 Contains-map f (y ∷ ys) x (suc k, h, e) = later (f y) (map f ys) (f x) (Contains-map f ys x (k, omega (arith, h), e))
 
+pub Contains-from_map : {A B : Type 0} (f : A → B) (xs : List A) (y : B) → Contains (map f xs) y → (x : A) × Contains xs x × (f x ≡ y)
+Contains-from_map f [] y m = absurd (none_in y m)
+Contains-from_map f (x ∷ xs) y m = elim (first_or_later (f x) (map f xs) y m) [
+  | inl here ↦ (x, (0, omega arith, refl), here)
+  | inr more ↦ let found = Contains-from_map f xs y more in (found.0, later x xs found.0 found.1, found.2)
+]
+
 pub Contains-flat_map : {A B : Type 0} (f : A → List B) (xs : List A) (x : A) (y : B) → Contains xs x → Contains (f x) y → Contains (flat_map f xs) y
 Contains-flat_map f [] x y m n = absurd (none_in x m)
 Contains-flat_map f (z ∷ zs) x y m n = elim (first_or_later z zs x m) [
   | inl here ↦ Contains-append_left (f z) (flat_map f zs) y (subst (λ k. Contains (f k) y) (sym here) n)
   | inr more ↦ Contains-append_right (f z) (flat_map f zs) y (Contains-flat_map f zs x y more n)
+]
+
+pub Contains-from_flat_map : {A B : Type 0} (f : A → List B) (xs : List A) (y : B) → Contains (flat_map f xs) y → (x : A) × Contains xs x × Contains (f x) y
+Contains-from_flat_map f [] y m = absurd (none_in y m)
+Contains-from_flat_map f (x ∷ xs) y m = elim (Contains-append_cases (f x) (flat_map f xs) y m) [
+  | inl here ↦ (x, (0, omega arith, refl), here)
+  | inr more ↦ let found = Contains-from_flat_map f xs y more in (found.0, later x xs found.0 found.1, found.2)
 ]
 
 pub odd_one : (bit : Bool) → odd_ones (bit ∷ []) ≡ bit

@@ -1,5 +1,5 @@
 -- The users of lines, number by number, and users with new numbers.
-use Rattle.std.proofs.Common.{◌≡◌, ◌≢◌, ℕ, suc, ◌+◌, ◌<◌, ◌≤◌, ◌⊎◌, List, [], ◌∷◌, ◌++◌, length, map, get_or, set, refl, sym, ◌∙◌, ap, subst, arith, inl, inr}
+use Rattle.std.proofs.Common.{◌≡◌, ◌≢◌, ℕ, ◌+◌, ◌<◌, ◌≤◌, ◌⊎◌, List, [], ◌∷◌, ◌++◌, length, map, get_or, set, refl, sym, ◌∙◌, ap, subst, arith, inl, inr}
 use Rattle.std.specs.Prelude.{All, Contains, replicate, sum_by}
 use Rattle.std.proofs.lemmas.Bool.{cases_eq, cases_lt}
 use Rattle.std.proofs.lemmas.List.{get_or-set_same, get_or-set_other, get_or-map, get_or_past, length-map, length-set, get_or_default, ext_get_or}
@@ -10,7 +10,7 @@ use Rattle.net_model.specs.Order.{IsOrder}
 use Rattle.net_model.specs.Topological.{pins_reading, users_at, AreReaders}
 use Rattle.net_model.specs.Wiring.{AreUsers, reads_at}
 use Rattle.net_model.proofs.Copies.{pins_within}
-use Rattle.net_model.proofs.Elements.{Contains-map, none_in, first_or_later, get_or-replicate_anywhere}
+use Rattle.net_model.proofs.Elements.{Contains-from_map, Contains-map, none_in, first_or_later, get_or-replicate_anywhere}
 use Rattle.net_model.proofs.OpenPins.{count_has, has_count}
 use Rattle.net_model.proofs.Orders.{reader_is_gate, order_has}
 
@@ -79,13 +79,6 @@ users_more uses users line count used inside are =
     }
 
 -- ---- new numbers
-
-Contains-from_map : (f : ℕ → ℕ) (xs : List ℕ) (y : ℕ) → Contains (map f xs) y → (x : ℕ) × Contains xs x × (f x ≡ y)
-Contains-from_map f [] y m = absurd (none_in y m)
-Contains-from_map f (x ∷ xs) y m = elim (first_or_later (f x) (map f xs) y m) [
-  | inl here ↦ (x, (0, omega arith, refl), here)
-  | inr more ↦ let r = Contains-from_map f xs y more in (r.0, (suc r.1.0, omega (arith, r.1.1), r.1.2), r.2)
-]
 
 pub renumbered_total : (f : ℕ → ℕ) (lists : List (List ℕ)) → sum_by length (map (map f) lists) ≡ sum_by length lists
 renumbered_total f [] = refl

@@ -6,7 +6,7 @@ use std::alloc::{AllocError, Global};
 use std::marker::Model;
 
 /// A list for each number below a count, for example the users of each line of a circuit.
-#[derive(Drop)]
+#[derive(Debug, Drop)]
 pub struct GrowingLists<T> {
     pub(crate) lists: Vec<Vec<T>>,
 }

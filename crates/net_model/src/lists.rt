@@ -7,7 +7,7 @@ use std::alloc::{AllocError, Global};
 use std::marker::Model;
 
 // List k is the numbers from start k up to start k + 1.
-#[derive(Drop)]
+#[derive(Debug, Drop)]
 pub(crate) struct Lists {
     starts: Vec<u32>,
     numbers: Vec<u32>,

@@ -7,7 +7,7 @@ use crate::gate::Kind;
 
 /// An operation over any number of pins in any order: 1 if all of them are 1, if any of them is, or if an odd number
 /// is.
-#[derive(Clone, Copy)]
+#[derive(Clone, Copy, Debug)]
 pub enum Fold {
     AllOf,
     AnyOf,
@@ -15,7 +15,7 @@ pub enum Fold {
 }
 
 /// What a gate makes of its pins, before it may invert: a fold of them, or the pin that the first one chooses.
-#[derive(Clone, Copy)]
+#[derive(Clone, Copy, Debug)]
 pub enum Operation {
     Folded(Fold),
     Chosen,

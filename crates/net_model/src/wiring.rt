@@ -13,7 +13,7 @@ use std::alloc::{AllocError, Global};
 use std::marker::Model;
 
 /// The gates of a circuit in an order, the gates that read each line, and the observed positions that show it.
-#[derive(Drop)]
+#[derive(Debug, Drop)]
 pub struct Wiring {
     order: Vec<u32>,
     readers: Lists,

@@ -8,7 +8,7 @@ use std::alloc::{AllocError, Global};
 use std::marker::Model;
 
 /// A list of bits, of any length, in an eighth of the memory of `Bits`.
-#[derive(Drop)]
+#[derive(Debug, Drop)]
 pub struct PackedBits {
     words: Vec<u64>,
     len: usize,

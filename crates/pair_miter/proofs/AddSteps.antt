@@ -1,6 +1,6 @@
 -- Clauses written one after another.
 use Rattle.std.proofs.Common.{◌≡◌, refl, sym, ap, ◌∙◌, subst}
-use Rattle.std.specs.Prelude.{Result, Ok, Err, IsErr, OnOk, List, [], ◌∷◌, ◌++◌}
+use Rattle.std.specs.Prelude.{Result, Ok, Err, IsErr, List, [], ◌∷◌, ◌++◌}
 use Rattle.std.proofs.lemmas.List.{append-nil, append_assoc}
 use Rattle.clause_pool.specs.Clauses.{Clause, Clauses}
 use Rattle.clause_pool.proofs.Numbered.{begins_through}
@@ -13,10 +13,6 @@ use Rattle.pair_miter.proofs.TidyParts.{tidy-append, tidy_none}
 pub writes_err : {T E : Type 0} {old new : Clauses} {clauses : List Clause} (r : Result T E) → IsErr r → KeepsClauses old new clauses → WritesClauses r old new clauses
 writes_err (Ok x) wrong keeps = cc
 writes_err (Err e) fails keeps = keeps
-
-pub on_ok : {T E P : Type 0} (r : Result T E) → P → OnOk r P
-on_ok (Ok x) p = p
-on_ok (Err e) p = tt
 
 pub adds_none : (pool : Clauses) → Adds pool pool []
 adds_none pool = record { written = sym (append-nil pool.clauses); places = room_same pool (pool.clauses ++ []) }

@@ -1,11 +1,10 @@
 -- A miter has fewer than 2^30 clauses and fewer than 2^31 variables: each line has at most eight clauses for itself and
 -- for each pin of its gate, and there are not too many lines, pins and positions.
 use Rattle.std.proofs.Common.{◌≡◌, ◌∙◌, ℕ, zero, suc, ◌+◌, ◌-◌, ◌*◌, ◌<◌, ◌≤◌, ◌^◌, refl, ap, arith, drop, get_or}
-use Rattle.std.specs.Prelude.{Bool, true, false, not, List, [], ◌∷◌, ◌++◌, map, filter, flat_map, length, Option, None, Some, slice_get, nat_lt, is_none, ◌||◌, ◌&&◌, sum_by, if◌then◌else◌}
+use Rattle.std.specs.Prelude.{Bool, true, false, not, List, [], ◌∷◌, ◌++◌, map, filter, flat_map, length, Option, None, Some, slice_get, is_none, ◌||◌, ◌&&◌, sum_by, if◌then◌else◌}
 use Rattle.std.specs.Option.{option_map_or}
 use Rattle.std.specs.List.{range_with_len, filter_map, cons_option}
 use Rattle.std.proofs.lemmas.List.FromFn.{length-range_with_len}
-use Rattle.std.proofs.lemmas.Bool.Decides.{nat_tests}
 use Rattle.std.proofs.lemmas.List.{length-append, length-map, drop_more, drop_all}
 use Rattle.std.proofs.lemmas.List.Sums.{sum_by-cons, sum_by-append, count_by-le-length}
 use Rattle.std.proofs.lemmas.Option.{get_or_from_slice_get}
@@ -21,6 +20,7 @@ use Rattle.net_model.specs.Gate.{operation_of, inverts}
 use Rattle.net_model.specs.Circuit.{Circuit, IsCircuit, line_count, all_lines, pins_of, gate_at}
 use Rattle.net_model.specs.Fault.{stuck_stem, stuck_pin, readings}
 use Rattle.net_model.specs.Scope.{is_split, is_relevant, is_reached, relevant_lines, reached_positions}
+use Rattle.net_model.proofs.DestinationCounts.{pins_of_item}
 use Rattle.net_model.proofs.QueueSteps.{source_pins}
 use Rattle.net_model.proofs.Elements.{slice_get-none, length-filter-le}
 use Rattle.net_model.proofs.Ranges.{range-append}
@@ -153,13 +153,6 @@ module _ (c : Circuit) where
       let none = ap length (source_pins c first (omega arith)) in
       omega (arith, sum_by-cons weight first (range_with_len (first + 1) many), none, source_weights (first + 1) many (omega arith))
 
-  pins_there : (k : ℕ) (gate : Gate) → slice_get c.gates k ≡ Some gate → pins_of c (c.sources + k) ≡ gate.pins
-  pins_there k gate there =
-      let gate_line : nat_lt (c.sources + k) c.sources ≡ false = grind (arith, nat_tests) in
-      let place : c.sources + k - c.sources ≡ k = omega arith in
-      ap (λ b. option_map_or (λ (d : Gate). d.pins) (if b then None else slice_get c.gates (c.sources + k - c.sources)) []) gate_line
-      ∙ (ap (λ n. option_map_or (λ (d : Gate). d.pins) (slice_get c.gates n) []) place ∙ ap (λ o. option_map_or (λ (d : Gate). d.pins) o []) there)
-
   gate_weights : (many k line : ℕ) → line ≡ c.sources + k → k + many ≡ length c.gates
       → sum_by weight (range_with_len line many) ≡ many + sum_by (λ gate. length gate.pins) (drop k c.gates)
   unfolding weight
@@ -176,7 +169,7 @@ module _ (c : Circuit) where
           let split = drop_more c.gates k gate (omega arith) in
           let gates = ap (sum_by (λ (gate : Gate). length gate.pins)) split ∙ sum_by-cons (λ (gate : Gate). length gate.pins) (get_or c.gates k gate) (drop (k + 1) c.gates) in
           let here = ap (λ (d : Gate). length d.pins) (get_or_from_slice_get c.gates k gate gate there) in
-          let pins = ap (λ l. length (pins_of c l)) is ∙ ap length (pins_there k gate there) in
+          let pins = ap (λ l. length (pins_of c l)) is ∙ ap length (pins_of_item c k gate there) in
           omega (arith, sum_by-cons weight line (range_with_len (line + 1) many), gates, here, pins, rest)
 
   all_weights : sum_by weight (all_lines c) ≡ line_count c + sum_by (λ gate. length gate.pins) c.gates

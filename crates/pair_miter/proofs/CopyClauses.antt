@@ -1,7 +1,7 @@
 -- The clauses of a line in a copy hold exactly if the line's variable carries the line's bit in the valuation of that
 -- copy, given that the variables of the lines that it reads do.
 use Rattle.std.proofs.Common.{◌≡◌, ◌∙◌, ℕ, suc, ◌+◌, ◌<◌, refl, sym, ap}
-use Rattle.std.specs.Prelude.{Bool, true, false, not, List, [], ◌∷◌, map, length, Option, None, Some, Contains, ◌||◌, ◌&&◌, unwrap_or}
+use Rattle.std.specs.Prelude.{Bool, true, false, List, [], ◌∷◌, map, length, Option, None, Some, Contains, unwrap_or}
 use Rattle.std.specs.Option.{option_map_or}
 use Rattle.std.specs.List.{enumerate_from}
 use Rattle.net_model.specs.declared.gate.Gate.{Gate}
@@ -17,7 +17,7 @@ use Rattle.pair_miter.specs.declared.side.Side.{Side}
 use Rattle.pair_miter.specs.Rows.{variables, signed_literal}
 use Rattle.pair_miter.specs.Miter.{operand_of, gate_operands, gate_clauses, stuck_clauses, copy_clauses, is_model, copy_bit}
 use Rattle.pair_miter.proofs.Bits.{holds, holds-is, is-holds}
-use Rattle.pair_miter.proofs.GateRows.{operand_value, Carry, variable_bits, helper_bits, gate_rows-sound, gate_rows-complete, unit_true}
+use Rattle.pair_miter.proofs.GateRows.{operand_value, Carry, variable_bits, helper_bits, gate_rows-sound, gate_rows-complete, unit_true, unit_false}
 
 length_pairs : {A : Type 0} (read : ℕ → ℕ → A) (n : ℕ) (lines : List ℕ) → length (map (λ x. read x.0 x.1) (enumerate_from n lines)) ≡ length lines
 length_pairs read n [] = refl
@@ -43,11 +43,7 @@ module _ (c : Circuit) (f g : Fault) (bits : List Bool) (copy : Side) where
 
     stuck_holds : (b : Bool) → is_model bits (stuck_clauses c f g copy line b) ≡ holds (copy_bit c f g bits copy line) b
     stuck_holds true = unit_true bits (signed_literal true (line_variable c f g copy line))
-    stuck_holds false = by (copy_bit c f g bits copy line)
-      where
-        by : (b : Bool) → ((not b || false) && true) ≡ holds b false
-        by true = refl
-        by false = refl
+    stuck_holds false = unit_false bits (signed_literal true (line_variable c f g copy line))
 
     -- the equation of the line, by its stem and its gate
     line_is : Option Bool → Option Gate → Bool

@@ -107,7 +107,7 @@ module _ (bits : List Bool) where
       by true = refl
       by false = refl
 
-  unit_false : (y : Literal) → is_model bits ((opposite y ∷ []) ∷ []) ≡ holds (literal_bit bits y) false
+  pub unit_false : (y : Literal) → is_model bits ((opposite y ∷ []) ∷ []) ≡ holds (literal_bit bits y) false
   unit_false y = (λ i. (opposite_bit bits y i || false) && true) ∙ by (literal_bit bits y)
     where
       by : (b : Bool) → ((not b || false) && true) ≡ holds b false

@@ -5,14 +5,14 @@ use Rattle.std.specs.Option.{option_map_or}
 use Rattle.std.specs.List.{range_with_len}
 use Rattle.std.proofs.lemmas.List.{get_or_default, length-take-le}
 use Rattle.std.proofs.lemmas.List.Elements.{Contains-get_or}
-use Rattle.std.proofs.lemmas.List.Sums.{sum_by_push, sum_by-take-le, length-filter, count_by-le-length}
+use Rattle.std.proofs.lemmas.List.Sums.{sum_by-take-le, length-filter, count_by-le-length}
 use Rattle.std.proofs.lemmas.List.FromFn.{length-range_with_len}
 use Rattle.net_model.specs.declared.gate.Gate.{Gate}
 use Rattle.net_model.specs.declared.fault.Fault.{Fault}
 use Rattle.net_model.specs.Circuit.{Circuit, IsCircuit, line_count, gate_at}
 use Rattle.net_model.specs.Fault.{stuck_stem}
 use Rattle.net_model.specs.Scope.{is_split, is_relevant, is_reached, relevant_lines, reached_positions}
-use Rattle.net_model.proofs.Orders.{range_with_len_more}
+use Rattle.net_model.proofs.Ranges.{sum_by-range_more}
 use Rattle.net_model.proofs.Relevance.{relevant_listed, listed_relevant, listed_reached}
 use Rattle.pair_miter.specs.Variables.{fault_of, is_second, line_variables, variables_below, line_variable, gate_helpers, copy_helpers, line_helpers, helpers_below, first_helper, difference_variable, variable_count}
 use Rattle.pair_miter.specs.declared.side.Side.TheVariants.{First, Second}
@@ -24,15 +24,12 @@ use Rattle.pair_miter.proofs.ClauseParts.{passing_below, listed_before, sum_of_p
 
 -- ---- sums over the numbers below one
 
-sum_more : (h : ℕ → ℕ) (n : ℕ) → sum_by h (range_with_len 0 (n + 1)) ≡ sum_by h (range_with_len 0 n) + h n
-sum_more h n = ap (sum_by h) (range_with_len_more 0 (n + 1) n n refl (omega arith)) ∙ sum_by_push h (range_with_len 0 n) n
-
 sum_rises_by : (h : ℕ → ℕ) (n more : ℕ) → sum_by h (range_with_len 0 n) ≤ sum_by h (range_with_len 0 (n + more))
 sum_rises_by h n zero = let e : n + 0 ≡ n = omega arith in let same = ap (λ k. sum_by h (range_with_len 0 k)) e in omega (arith, same)
 sum_rises_by h n (suc more) =
     let e : n + suc more ≡ (n + more) + 1 = omega arith in
     let same = ap (λ k. sum_by h (range_with_len 0 k)) e in
-    omega (arith, same, sum_more h (n + more), sum_rises_by h n more)
+    omega (arith, same, sum_by-range_more h (n + more), sum_rises_by h n more)
 
 sum_rises : (h : ℕ → ℕ) (n m : ℕ) → n ≤ m → sum_by h (range_with_len 0 n) ≤ sum_by h (range_with_len 0 m)
 sum_rises h n m le =
@@ -43,7 +40,7 @@ sum_rises h n m le =
 module _ (c : Circuit) (f g : Fault) where
   pub variables_below-more : (line : ℕ) → variables_below c f g (line + 1) ≡ variables_below c f g line + line_variables c f g line
   unfolding variables_below
-  variables_below-more line = sum_more (line_variables c f g) line
+  variables_below-more line = sum_by-range_more (line_variables c f g) line
 
   pub variables_below-rises : (n m : ℕ) → n ≤ m → variables_below c f g n ≤ variables_below c f g m
   unfolding variables_below
@@ -93,7 +90,7 @@ module _ (c : Circuit) (f g : Fault) where
 
   pub helpers_below-more : (line : ℕ) → helpers_below c f g (line + 1) ≡ helpers_below c f g line + line_helpers c f g line
   unfolding helpers_below
-  helpers_below-more line = sum_more (line_helpers c f g) line
+  helpers_below-more line = sum_by-range_more (line_helpers c f g) line
 
   pub helpers_below-rises : (n m : ℕ) → n ≤ m → helpers_below c f g n ≤ helpers_below c f g m
   unfolding helpers_below
@@ -193,7 +190,7 @@ module _ (c : Circuit) (f g : Fault) where
   reached_below at = count_by (is_reached c f g) (range_with_len 0 at)
 
   pub reached_more : (at : ℕ) (b : Bool) → is_reached c f g at ≡ b → reached_below (at + 1) ≡ reached_below at + (if b then 1 else 0)
-  reached_more at b e = sum_more (λ n. if is_reached c f g n then 1 else 0) at ∙ ap (λ r. reached_below at + (if r then 1 else 0)) e
+  reached_more at b e = sum_by-range_more (λ n. if is_reached c f g n then 1 else 0) at ∙ ap (λ r. reached_below at + (if r then 1 else 0)) e
 
   pub length-reached : length (reached_positions c f g) ≡ reached_below (length c.positions)
   unfolding reached_positions

@@ -2,7 +2,7 @@
 use Rattle.std.proofs.Common.{◌≡◌, ◌∙◌, ℕ, ◌<◌, refl, sym, ap, subst, arith, length, get_or}
 use Rattle.std.specs.Prelude.{Bool, true, false, List, [], ◌∷◌, ◌++◌, ◌&&◌, map, filter, All, Contains, if◌then◌else◌}
 use Rattle.std.specs.List.{range_with_len}
-use Rattle.std.proofs.lemmas.Bool.{and_parts}
+use Rattle.std.proofs.lemmas.Bool.{and_parts, and_right}
 use Rattle.std.proofs.lemmas.List.{map-append, get_or_default}
 use Rattle.std.proofs.lemmas.List.Elements.{Contains-get_or, filter-append, All-nil, All-cons, All-head, All-tail, All-append}
 use Rattle.net_model.specs.declared.fault.Fault.{Fault}
@@ -28,10 +28,6 @@ filter_again p q none (x ∷ xs) = by (q x) refl (filter_again p q none xs)
     by : (b : Bool) → q x ≡ b → filter p (filter q xs) ≡ filter p xs → filter p (if b then x ∷ filter q xs else filter q xs) ≡ filter p (x ∷ xs)
     by true e rest = ap (λ ys. if p x then x ∷ ys else ys) rest
     by false e rest = rest ∙ sym (ap (λ b. if b then x ∷ filter p xs else filter p xs) (none x e))
-
-neither : (r s : Bool) → s ≡ false → (r && s) ≡ false
-neither true s e = e
-neither false s e = refl
 
 module _ (c : Circuit) (f g : Fault) where
   copies_append : (xs ys : List ℕ) → all_copies c f g (xs ++ ys) ≡ all_copies c f g xs ++ all_copies c f g ys
@@ -98,7 +94,7 @@ module _ (c : Circuit) (f g : Fault) where
   unfolding all_copies
   copies_of_split lines split =
       ap (λ xs. map (copies_of c f g) (filter (is_double c f g) xs)) split.are
-      ∙ ap (map (copies_of c f g)) (filter_again (is_double c f g) (is_split c f g) (λ line e. neither (is_relevant c f g line) (is_split c f g line) e) (range_with_len 0 c.sources ++ split.order))
+      ∙ ap (map (copies_of c f g)) (filter_again (is_double c f g) (is_split c f g) (λ line e. and_right (is_relevant c f g line) (is_split c f g line) e) (range_with_len 0 c.sources ++ split.order))
 
   -- each listed line is a split line of the circuit
   pub split_listed : IsCircuit c → (lines : List ℕ) → AreSplitInOrder c f g lines → (i : ℕ) → i < length lines → (get_or lines i 0 < line_count c) × (is_split c f g (get_or lines i 0) ≡ true)

@@ -1,12 +1,13 @@
 -- Tidying part by part: lists of clauses, one clause, and a clause with one more literal.
-use Rattle.std.proofs.Common.{◌≡◌, ℕ, refl, sym, ap, ◌∙◌, arith}
-use Rattle.std.specs.Prelude.{Bool, true, false, not, List, [], ◌∷◌, ◌++◌, map, filter, ◌||◌, ◌&&◌, ◌==◌, if◌then◌else◌}
+use Rattle.std.proofs.Common.{◌≡◌, refl, sym, ap, ◌∙◌, arith}
+use Rattle.std.specs.Prelude.{Bool, true, false, not, List, [], ◌∷◌, ◌++◌, map, filter, ◌||◌, ◌&&◌, if◌then◌else◌}
 use Rattle.std.specs.Bool.{beq}
 use Rattle.std.specs.List.{list_any}
 use Rattle.std.proofs.lemmas.List.{map-append, append-nil}
 use Rattle.std.proofs.lemmas.List.Elements.{filter-append}
 use Rattle.std.proofs.lemmas.List.Folds.{list_any-append}
-use Rattle.std.proofs.lemmas.Bool.Decides.{nat_tests}
+use Rattle.net_model.proofs.Elements.{eq-comm}
+use Rattle.fault_list.proofs.Split.{or_exchange}
 use Rattle.clause_pool.specs.Literal.{Literal, opposite, same_literal}
 use Rattle.clause_pool.specs.Clauses.{Clause}
 use Rattle.pair_miter.specs.Miter.{has_literal, without_repeats, is_tautology, tidy}
@@ -34,9 +35,6 @@ tidy_kept clause e = ap (λ b. map without_repeats (if not b then clause ∷ [] 
 
 -- ---- literals
 
-same_number : (m n : ℕ) → (m == n) ≡ (n == m)
-same_number m n = grind (arith, nat_tests)
-
 same_sign : (a b : Bool) → beq a b ≡ beq b a
 same_sign true true = refl
 same_sign true false = refl
@@ -44,7 +42,7 @@ same_sign false true = refl
 same_sign false false = refl
 
 pub same_literal-comm : (l m : Literal) → same_literal l m ≡ same_literal m l
-same_literal-comm l m = λ i. same_number l.variable m.variable i && same_sign l.positive m.positive i
+same_literal-comm l m = λ i. eq-comm l.variable m.variable i && same_sign l.positive m.positive i
 
 opposite_sign : (a b : Bool) → beq (not a) b ≡ beq (not b) a
 opposite_sign true true = refl
@@ -53,7 +51,7 @@ opposite_sign false true = refl
 opposite_sign false false = refl
 
 opposite-comm : (l m : Literal) → same_literal (opposite l) m ≡ same_literal (opposite m) l
-opposite-comm l m = λ i. same_number l.variable m.variable i && opposite_sign l.positive m.positive i
+opposite-comm l m = λ i. eq-comm l.variable m.variable i && opposite_sign l.positive m.positive i
 
 pub has_literal-push : (xs : Clause) (l m : Literal) → has_literal (xs ++ l ∷ []) m ≡ (has_literal xs m || same_literal m l)
 has_literal-push xs l m = list_any-append (same_literal m) xs (l ∷ []) ∙ ap (λ b. has_literal xs m || b) (or-false (same_literal m l))
@@ -90,13 +88,7 @@ opposites-push : (xs : Clause) (l : Literal) (ys : Clause) → list_any (λ m. h
 opposites-push xs l [] = refl
 opposites-push xs l (m ∷ ms) =
     (λ i. (has_literal-push xs l (opposite m) ∙ ap (λ b. has_literal xs (opposite m) || b) (opposite-comm m l)) i || opposites-push xs l ms i)
-    ∙ regroup (has_literal xs (opposite m)) (same_literal (opposite l) m) (list_any (λ k. has_literal xs (opposite k)) ms) (has_literal ms (opposite l))
-  where
-    regroup : (a b c d : Bool) → ((a || b) || (c || d)) ≡ ((a || c) || (b || d))
-    regroup true b c d = refl
-    regroup false true true d = refl
-    regroup false true false d = refl
-    regroup false false c d = refl
+    ∙ or_exchange (has_literal xs (opposite m)) (same_literal (opposite l) m) (list_any (λ k. has_literal xs (opposite k)) ms) (has_literal ms (opposite l))
 
 pub is_tautology-push : (xs : Clause) (l : Literal) → is_tautology (xs ++ l ∷ []) ≡ (is_tautology xs || has_literal (xs ++ l ∷ []) (opposite l))
 is_tautology-push xs l =

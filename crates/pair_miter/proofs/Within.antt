@@ -2,6 +2,7 @@
 use Rattle.std.proofs.Common.{◌≡◌, ◌≢◌, ◌∙◌, inl, inr, zero, suc, ℕ, ◌<◌, ◌+◌, ◌-◌, refl, sym, ap, subst, arith, length, get_or}
 use Rattle.std.specs.Prelude.{Bool, true, false, not, List, [], ◌∷◌, ◌++◌, map, filter, flat_map, Option, None, Some, All, Contains, is_none, ◌||◌, slice_get, nat_lt, if◌then◌else◌}
 use Rattle.std.specs.Option.{option_map_or}
+use Rattle.std.proofs.lemmas.Bool.{not-true}
 use Rattle.std.proofs.lemmas.List.Elements.{All-nil, All-cons, All-head, All-tail, All-append, All-map, All-filter, Contains-get_or, filter_passes}
 use Rattle.std.proofs.lemmas.List.Kept.{AllPairs-cons, AllPairs-filter}
 use Rattle.net_model.specs.declared.gate.Gate.{Gate}
@@ -260,16 +261,12 @@ first_apart l ls none k d h e =
     let kept = filter (λ m. not (same_literal l m)) (without_repeats ls) in
     let m = get_or kept k d in
     let parts = Contains-from_filter (λ m. not (same_literal l m)) (without_repeats ls) m (Contains-get_or kept k d h) in
-    let turned = opposite_or_not l m e (not_true (same_literal l m) parts.1) in
+    let turned = opposite_or_not l m e (not-true (same_literal l m) parts.1) in
     let there : has_literal (l ∷ ls) (opposite l) ≡ true = any_from (same_literal (opposite l)) (l ∷ ls) m (later l ls m (from_once ls m parts.0)) (same_literal-same (opposite l) m turned) in
     let all = any_from (λ x. has_literal (l ∷ ls) (opposite x)) (l ∷ ls) l (0, omega arith, refl) there in
     let w : ◌≡◌ {A = Bool} true false = sym all ∙ none in
     cc
   where
-    not_true : (b : Bool) → not b ≡ true → b ≡ false
-    not_true true e = cc
-    not_true false e = refl
-
     from_once : (ls : Clause) (m : Literal) → Contains (without_repeats ls) m → Contains ls m
     from_once [] m h = h
     from_once (x ∷ xs) m h = elim (first_or_later x (filter (λ n. not (same_literal x n)) (without_repeats xs)) m h) [
@@ -307,9 +304,5 @@ miter_proper c f g w =
     All-map (IsProper n) without_repeats kept
     (λ k d h. record {
       inside = once_within n (get_or kept k d) (All-filter test (HasVariablesUpTo n) raw (raw_within c f g w) k d h);
-      once = once_apart (get_or kept k d) (not_true (is_tautology (get_or kept k d)) (filter_passes test raw k d h));
+      once = once_apart (get_or kept k d) (not-true (is_tautology (get_or kept k d)) (filter_passes test raw k d h));
     })
-  where
-    not_true : (b : Bool) → not b ≡ true → b ≡ false
-    not_true true e = cc
-    not_true false e = refl

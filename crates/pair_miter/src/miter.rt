@@ -18,6 +18,7 @@ use std::alloc::{AllocError, Global};
 use std::marker::Model;
 
 /// The miter of two faults of a circuit. It borrows the circuit and keeps copies of the faults.
+#[derive(Debug)]
 pub struct Miter<'a> {
     pub(crate) alloc: Global,
     pub(crate) numbering: Numbering<'a>,

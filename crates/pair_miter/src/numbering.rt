@@ -17,7 +17,7 @@ use std::alloc::{AllocError, Global};
 use std::marker::Model;
 
 /// The variables of the lines of the miter of two faults.
-#[derive(Drop)]
+#[derive(Debug, Drop)]
 pub(crate) struct Numbering<'a> {
     scope: PairScope<'a>,
     // The variable of each relevant line in the first copy. At other lines those of earlier pairs stay.

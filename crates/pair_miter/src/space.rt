@@ -16,7 +16,7 @@ use std::marker::Model;
 
 /// The space in which the miters of pairs of a circuit's faults are built one after another. What a pair costs grows
 /// with its scope.
-#[derive(Drop)]
+#[derive(Debug, Drop)]
 pub struct MiterSpace<'a> {
     pub(crate) alloc: Global,
     pub(crate) numbering: Numbering<'a>,

@@ -10,7 +10,7 @@ use crate::side::Side;
 use std::alloc::{AllocError, Global};
 
 /// The variables of a split line: in the copy under the first fault, and in that under the second.
-#[derive(Clone, Copy)]
+#[derive(Clone, Copy, Debug)]
 pub struct Copies {
     pub first: u32,
     pub second: u32,

@@ -12,7 +12,7 @@ use Rattle.net_model.specs.Answer.{bit_at}
 use Rattle.net_model.specs.Circuit.{Circuit, line_count, all_lines}
 use Rattle.net_model.specs.Scope.{leads_to, is_split, is_reached, is_relevant, reached_positions, relevant_lines}
 use Rattle.net_model.proofs.Elements.{true_false, Contains-filter, Contains-from_filter}
-use Rattle.net_model.proofs.Orders.{Contains-range, range-within}
+use Rattle.net_model.proofs.Orders.{Contains-range_from_zero, range-within}
 use Rattle.event_queue.specs.Pending.{is_pending}
 use Rattle.pair_scope.specs.declared.listed.Listed.{Listed}
 use Rattle.pair_scope.specs.Places.{leads_to_shown}
@@ -44,9 +44,6 @@ module _ (count : ℕ) (test : ℕ → Bool) (xs : List ℕ) (a : Listed) where
     room = blank.room;
   }
 
-range_all : (count n : ℕ) → n < count → Contains (range_with_len 0 count) n
-range_all count n h = Contains-range 0 count n (omega arith) (omega (arith, h))
-
 pub range_inside : (count n : ℕ) → Contains (range_with_len 0 count) n → n < count
 range_inside count n m = omega (arith, (range-within 0 count n m).1)
 
@@ -67,11 +64,11 @@ listed_alike n count test other a e alike is =
 module _ (c : Circuit) (f g : Fault) (a : Listed) where
   pub reached_are_listed : IsListed (length c.positions) (is_reached c f g) (reached_positions c f g) a → AreListed a
   unfolding reached_positions
-  reached_are_listed is = are_listed (length c.positions) (is_reached c f g) (range_with_len 0 (length c.positions)) a (range_all (length c.positions)) (range_inside (length c.positions)) is
+  reached_are_listed is = are_listed (length c.positions) (is_reached c f g) (range_with_len 0 (length c.positions)) a (Contains-range_from_zero (length c.positions)) (range_inside (length c.positions)) is
 
   pub relevant_are_listed : IsListed (line_count c) (is_relevant c f g) (relevant_lines c f g) a → AreListed a
   unfolding relevant_lines
-  relevant_are_listed is = are_listed (line_count c) (is_relevant c f g) (all_lines c) a (range_all (line_count c)) (range_inside (line_count c)) is
+  relevant_are_listed is = are_listed (line_count c) (is_relevant c f g) (all_lines c) a (Contains-range_from_zero (line_count c)) (range_inside (line_count c)) is
 
   pub reached_alike : (queue : List Bool) → length queue ≡ length c.positions → ((k : ℕ) → k < length c.positions → is_pending queue k ≡ is_reached c f g k)
       → IsListed (length queue) (is_pending queue) (filter (is_pending queue) (range_with_len 0 (length queue))) a → IsListed (length c.positions) (is_reached c f g) (reached_positions c f g) a

@@ -3,14 +3,13 @@ use Rattle.std.proofs.Common.{◌≡◌, ◌≢◌, ℕ, ◌+◌, ◌-◌, ◌<�
 use Rattle.std.specs.Prelude.{false, Contains, IsPermutation}
 use Rattle.std.specs.List.{IsDistinct, range_with_len}
 use Rattle.std.proofs.lemmas.Bool.{cases_lt, eq-eqb, ne_eqb}
-use Rattle.std.proofs.lemmas.Bool.Decides.{nat_tests}
 use Rattle.std.proofs.lemmas.List.{get_or_append_left, get_or-append_right, get_or_default, length-append}
 use Rattle.std.proofs.lemmas.List.FromFn.{length-range_with_len, get_or-range_with_len}
 use Rattle.std.proofs.lemmas.List.Sorted.{IsPermutation-append_right, IsPermutation-sym, Contains-permutation}
 use Rattle.std.proofs.lemmas.Map.Keys.{IsDistinct-IsPermutation, IsDistinct-from_apart, apart_from_distinct}
 use Rattle.net_model.specs.Circuit.{Circuit, line_count, all_lines, gate_lines, Feeds}
 use Rattle.net_model.specs.Wiring.{Wiring, IsWiring}
-use Rattle.net_model.proofs.Elements.{true_false}
+use Rattle.net_model.proofs.Elements.{eq-comm, true_false}
 use Rattle.net_model.proofs.Orders.{Contains-range, range-within, reader_is_gate}
 use Rattle.net_model.proofs.Places.{places_are_gates, later_place}
 use Rattle.net_model.proofs.Ranges.{range-append}
@@ -21,9 +20,6 @@ pub end_twice : (count place : ℕ) → place < count → from_end count (from_e
 end_twice count place h = omega arith
 
 -- ---- all lines, in an order
-
-same_either_way : (x y : ℕ) → eqb x y ≡ eqb y x
-same_either_way x y = grind (arith, nat_tests)
 
 range_apart : (n i j d : ℕ) → i < j → j < length (range_with_len 0 n) → eqb (get_or (range_with_len 0 n) i d) (get_or (range_with_len 0 n) j d) ≡ false
 range_apart n i j d lt h =
@@ -45,7 +41,7 @@ module _ (c : Circuit) (wiring : Wiring) (wired : IsWiring c wiring) (lines : Li
       from_none = omega arith
 
   lines_distinct : IsDistinct eqb lines
-  lines_distinct = IsDistinct-IsPermutation eqb same_either_way (all_lines c) lines (IsPermutation-sym lines (all_lines c) lines_permuted) (IsDistinct-from_apart eqb (all_lines c) (range_apart (line_count c)))
+  lines_distinct = IsDistinct-IsPermutation eqb eq-comm (all_lines c) lines (IsPermutation-sym lines (all_lines c) lines_permuted) (IsDistinct-from_apart eqb (all_lines c) (range_apart (line_count c)))
 
   -- no line is at two places
   pub lines_apart : (j k : ℕ) → j < k → k < length lines → get_or lines j 0 ≢ get_or lines k 0

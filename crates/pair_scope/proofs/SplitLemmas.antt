@@ -1,19 +1,18 @@
 -- The split lines, found by their places starting at the first changed ones.
-use Rattle.std.proofs.Common.{◌≡◌, ◌≢◌, ℕ, zero, suc, ◌+◌, ◌-◌, ◌<◌, ◌≤◌, ◌⊎◌, List, [], ◌∷◌, ◌++◌, length, take, get_or, set, refl, sym, ◌∙◌, ap, subst, arith, inl, inr}
-use Rattle.std.specs.Prelude.{Bool, true, false, Option, None, Some, ◌==◌, filter}
+use Rattle.std.proofs.Common.{◌≡◌, ◌≢◌, ℕ, ◌+◌, ◌-◌, ◌<◌, ◌≤◌, ◌⊎◌, List, [], ◌∷◌, ◌++◌, length, take, get_or, set, refl, sym, ◌∙◌, ap, subst, arith, inl, inr}
+use Rattle.std.specs.Prelude.{Bool, true, false, Some, filter}
 use Rattle.std.specs.Cmp.{both_ways}
 use Rattle.std.specs.Option.{option_map_or}
-use Rattle.std.specs.List.{list_any}
-use Rattle.std.proofs.lemmas.Bool.{cases_eq, eqb-true, eq-eqb, false_from_ne_true, or_cases, or_left, or_right}
+use Rattle.std.proofs.lemmas.Bool.{cases_eq, eq-eqb, false_from_ne_true, or_left, or_right}
 use Rattle.std.proofs.lemmas.List.{get_or-set_same, get_or-set_other, take_all}
 use Rattle.net_model.specs.declared.fault.Fault.{Fault}
-use Rattle.net_model.specs.Circuit.{Circuit, line_count, pins_of, Feeds}
+use Rattle.net_model.specs.Circuit.{Circuit, line_count, Feeds}
 use Rattle.net_model.specs.Answer.{bit_at}
 use Rattle.net_model.specs.Scope.{first_changed, is_split, leads_within, leads_to, reaches_line}
 use Rattle.net_model.specs.Wiring.{Wiring}
-use Rattle.net_model.proofs.Elements.{passing, true_false}
+use Rattle.net_model.proofs.Elements.{true_false}
 use Rattle.net_model.proofs.Orders.{reader_is_gate}
-use Rattle.net_model.proofs.ScopeLaws.{leads_here, split_is_closed}
+use Rattle.net_model.proofs.ScopeLaws.{leads_here, marked_split, split_is_closed}
 use Rattle.event_queue.specs.Pending.{is_pending, IsEmpty, IsLowest}
 use Rattle.event_queue.proofs.Marks.{lowest_left}
 use Rattle.pair_scope.specs.Places.{ArePlacesOf, AreWokenFrom, HasBegun}
@@ -145,20 +144,6 @@ module _ (c : Circuit) (f g : Fault) (wiring : Wiring) (lines places : List ℕ)
         | inr waits ↦ true_false (is_pending queue (get_or places reader 0)) waits (none (get_or places reader 0))
       ]
 
-      marked_onward : (n start line : ℕ) → bit_at marks start ≡ true → leads_within c n start line ≡ true → bit_at marks line ≡ true
-      marked_onward zero start line m t = ap (bit_at marks) (sym (eqb-true start line t)) ∙ m
-      marked_onward (suc n) start line m t = elim (or_cases (start == line) (list_any (leads_within c n start) (pins_of c line)) t) [
-        | inl here ↦ ap (bit_at marks) (sym (eqb-true start line here)) ∙ m
-        | inr through ↦
-            let pin = passing (leads_within c n start) (pins_of c line) through in
-            marked_next pin.0 line (marked_onward n start pin.0 m pin.2) pin.1
-      ]
-
-      marked_from : (first : Option ℕ) → ((start : ℕ) → first ≡ Some start → bit_at marks start ≡ true) → (line : ℕ) → option_map_or (λ start. leads_to c start line) first false ≡ true → bit_at marks line ≡ true
-      unfolding leads_to
-      marked_from None begun line t = cc
-      marked_from (Some start) begun line t = marked_onward (length c.gates) start line (begun start refl) t
-
       module _ (inside : (start : ℕ) → Begins f g start → start < line_count c) where
         marked_first : (start : ℕ) → Begins f g start → bit_at marks start ≡ true
         marked_first start begins = elim (so_far.begun start (inside start begins) begins) [
@@ -166,16 +151,10 @@ module _ (c : Circuit) (f g : Fault) (wiring : Wiring) (lines places : List ℕ)
           | inr waits ↦ true_false (is_pending queue (get_or places start 0)) waits (none (get_or places start 0))
         ]
 
-        marked_split : (line : ℕ) → is_split c f g line ≡ true → bit_at marks line ≡ true
-        unfolding is_split reaches_line
-        marked_split line t = elim (or_cases (reaches_line c f line) (reaches_line c g line) t) [
-          | inl one ↦ marked_from (first_changed f) (λ start e. marked_first start (inl e)) line one
-          | inr two ↦ marked_from (first_changed g) (λ start e. marked_first start (inr e)) line two
-        ]
-
         -- if none waits, exactly the split lines are marked
         pub split_marks : (line : ℕ) → bit_at marks line ≡ is_split c f g line
-        split_marks line = both_ways (bit_at marks line) (is_split c f g line) (so_far.sound line) (marked_split line)
+        split_marks line = both_ways (bit_at marks line) (is_split c f g line) (so_far.sound line)
+            (marked_split c marks marked_next f g (λ start e. marked_first start (inl e)) (λ start e. marked_first start (inr e)) line)
 
         -- if none waits, the split lines are listed
         pub split_list : list ≡ filter (is_split c f g) lines

@@ -10,7 +10,7 @@ use event_queue::NumberQueue;
 use std::alloc::{AllocError, Global};
 
 /// A mark for each number below a count, and a list of those that are marked.
-#[derive(Drop)]
+#[derive(Debug, Drop)]
 pub(crate) struct Listed {
     pub(crate) marks: Vec<bool>,
     pub(crate) numbers: Vec<u32>,

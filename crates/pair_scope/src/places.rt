@@ -13,7 +13,7 @@ use std::alloc::{AllocError, Global};
 
 /// The lines of a circuit, first the sources and then the gates in an evaluation order, and the place of each line
 /// among them.
-#[derive(Drop)]
+#[derive(Debug, Drop)]
 pub(crate) struct LinePlaces<'a> {
     pub(crate) circuit: &'a Circuit,
     pub(crate) wiring: &'a Wiring,

@@ -20,6 +20,7 @@ use std::marker::Model;
 /// The scope of a pair of faults of a circuit, in memory that is reused from pair to pair. A line is split if one of
 /// the faults reaches it, and a position is reached if it shows a split line or is the site of one of the faults. The
 /// lines of reached positions are relevant, and so are all lines that lead to them.
+#[derive(Debug)]
 pub struct PairScope<'a> {
     places: LinePlaces<'a>,
     f: Fault,

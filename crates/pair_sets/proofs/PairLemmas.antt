@@ -1,13 +1,11 @@
 -- Which pairs are in a set: in an image, in what a gate gives, and in a set with values put in.
 use Rattle.std.proofs.Common.{◌≡◌, refl, sym, ◌∙◌, arith, subst, inl, inr}
-use Rattle.std.specs.Prelude.{Bool, true, false, List, [], ◌∷◌, map, flat_map, Option, unwrap_or, Contains}
+use Rattle.std.specs.Prelude.{Bool, true, false, List, [], ◌∷◌, map, Option, unwrap_or, Contains}
 use Rattle.std.specs.Bool.{beq}
 use Rattle.std.specs.List.{list_any, AllZip}
-use Rattle.std.proofs.lemmas.List.Elements.{Contains-append_cases}
 use Rattle.std.specs.Cmp.{both_ways, booleans_Decides}
 use Rattle.std.proofs.lemmas.Bool.{and_parts}
-use Rattle.net_model.proofs.Copies.{later}
-use Rattle.net_model.proofs.Elements.{none_in, first_or_later, any_from, passing, Contains-filter, Contains-from_filter, Contains-map, Contains-flat_map}
+use Rattle.net_model.proofs.Elements.{none_in, first_or_later, any_from, passing, Contains-filter, Contains-from_filter, Contains-map, Contains-from_map, Contains-flat_map, Contains-from_flat_map}
 use Rattle.pair_sets.specs.PairSet.{PairSet}
 use Rattle.pair_sets.specs.PairSet.{Pair, has_pair, set_of, pairs_of, same_pair, image_of, forced_pairs, choices, value_pairs, IsWithin}
 
@@ -24,22 +22,6 @@ same_pair_is p q e =
 
 pub same_pair_same : (p : Pair) → same_pair p p ≡ true
 same_pair_same p = rw ((booleans_Decides p.0 p.0).1 refl, (booleans_Decides p.1 p.1).1 refl) refl
-
--- ---- elements
-
-map_is : {A B : Type 0} (f : A → B) (xs : List A) (y : B) → Contains (map f xs) y → (x : A) × Contains xs x × (f x ≡ y)
-map_is f [] y m = absurd (none_in y m)
-map_is f (x ∷ xs) y m = elim (first_or_later (f x) (map f xs) y m) [
-  | inl here ↦ (x, (0, omega arith, refl), here)
-  | inr more ↦ let found = map_is f xs y more in (found.0, later x xs found.0 found.1, found.2)
-]
-
-flat_is : {A B : Type 0} (f : A → List B) (xs : List A) (y : B) → Contains (flat_map f xs) y → (x : A) × Contains xs x × Contains (f x) y
-flat_is f [] y m = absurd (none_in y m)
-flat_is f (x ∷ xs) y m = elim (Contains-append_cases (f x) (flat_map f xs) y m) [
-  | inl here ↦ (x, (0, omega arith, refl), here)
-  | inr more ↦ let found = flat_is f xs y more in (found.0, later x xs found.0 found.1, found.2)
-]
 
 -- ---- sets
 
@@ -109,8 +91,8 @@ choice_is [] ps m = elim (first_or_later {A = List Pair} [] [] ps m) [
   | inr more ↦ absurd (none_in ps more)
 ]
 choice_is (s ∷ sets) ps m =
-    let first = flat_is (λ p. map (λ qs. p ∷ qs) (choices sets)) (pairs_of s) ps m in
-    let rest = map_is (λ qs. first.0 ∷ qs) (choices sets) ps first.2 in
+    let first = Contains-from_flat_map (λ p. map (λ qs. p ∷ qs) (choices sets)) (pairs_of s) ps m in
+    let rest = Contains-from_map (λ qs. first.0 ∷ qs) (choices sets) ps first.2 in
     subst (AllZip Has (s ∷ sets)) rest.2 (pairs_are s first.0 first.1, choice_is sets rest.0 rest.1)
 
 choice_from : (sets : List PairSet) (ps : List Pair) → AllZip Has sets ps → Contains (choices sets) ps

@@ -4,7 +4,7 @@ use Rattle.std.specs.Prelude.{Bool, true, false, not, List, [], ◌∷◌, Optio
 use Rattle.std.specs.Bool.{beq}
 use Rattle.std.specs.List.{AllZip}
 use Rattle.std.specs.Cmp.{booleans_Decides}
-use Rattle.std.proofs.lemmas.Bool.{and_from, and_parts, false≢true}
+use Rattle.std.proofs.lemmas.Bool.{and_from, and_parts, false≢true, not-false}
 use Rattle.pair_sets.specs.PairSet.{PairSet, Pair, has_pair, same_pair, has_several, free_pairs, fixed_pairs, forced_pairs, value_pairs, only_equal, only_unequal}
 use Rattle.pair_sets.proofs.PairLemmas.{Has, same_pair_is, same_pair_same, forced_pair, forced_is, value_pair, values_are}
 use Rattle.pair_sets.proofs.GateLemmas.{every_bit, at_bit, implied, every_set, at_set}
@@ -58,11 +58,7 @@ pub no_single : (s : PairSet) → has_several s ≡ true → IsSingle s → ⊥
 no_single s e single = false≢true (ap not (sym (passes_single s single)) ∙ sym (several_is s) ∙ e)
 
 pub not_several : (s : PairSet) → has_several s ≡ false → IsSingle s
-not_several s e = single_passes s (turned (single_test s) (sym (several_is s) ∙ e))
-  where
-    turned : (b : Bool) → not b ≡ false → b ≡ true
-    turned true t = refl
-    turned false t = cc
+not_several s e = single_passes s (not-false (single_test s) (sym (several_is s) ∙ e))
 
 pub several_if : (s t : PairSet) → (IsSingle t → IsSingle s) → has_several s ≡ true → has_several t ≡ true
 several_if s t single e = by (has_several t) refl

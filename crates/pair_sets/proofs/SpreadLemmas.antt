@@ -4,19 +4,18 @@ use Rattle.std.proofs.Common.{◌≡◌, ◌≢◌, ℕ, zero, suc, ◌<◌, Lis
 use Rattle.std.specs.Prelude.{Bool, true, false, Option, None, Some, ◌==◌, ◌||◌}
 use Rattle.std.specs.Cmp.{both_ways}
 use Rattle.std.specs.Option.{option_map_or}
-use Rattle.std.specs.List.{list_any}
-use Rattle.std.proofs.lemmas.Bool.{cases_eq, cases_lt, eqb-true, eq-eqb, ne_eqb, or_cases, or_from, or_left, or_right, or_parts}
+use Rattle.std.proofs.lemmas.Bool.{cases_eq, cases_lt, eq-eqb, ne_eqb, or_from, or_left, or_right, or_parts}
 use Rattle.std.proofs.lemmas.List.{get_or-set_same, get_or-set_other, get_or_past}
 use Rattle.net_model.specs.declared.gate.Gate.{Gate}
 use Rattle.net_model.specs.declared.fault.Fault.{Fault}
 use Rattle.net_model.specs.declared.fault.Fault.TheVariants.{Free}
-use Rattle.net_model.specs.Circuit.{Circuit, IsCircuit, line_count, gate_at, pins_of, Feeds}
+use Rattle.net_model.specs.Circuit.{Circuit, IsCircuit, line_count, gate_at, Feeds}
 use Rattle.net_model.specs.Answer.{bit_at}
-use Rattle.net_model.specs.Scope.{first_changed, is_split, leads_within, leads_to, reaches_line}
+use Rattle.net_model.specs.Scope.{first_changed, is_split, leads_to, reaches_line}
 use Rattle.net_model.specs.Wiring.{Wiring, IsWiring}
 use Rattle.net_model.proofs.Copies.{pins_inside, same_readings}
-use Rattle.net_model.proofs.Elements.{passing, true_false}
-use Rattle.net_model.proofs.ScopeLaws.{leads_here, none_split, split_is_closed}
+use Rattle.net_model.proofs.Elements.{true_false}
+use Rattle.net_model.proofs.ScopeLaws.{leads_here, marked_split, none_split, split_is_closed}
 use Rattle.fault_list.specs.Scope.{AreMarksOfTest, is_first_changed, begins_at}
 use Rattle.event_queue.specs.Pending.{is_pending, IsEmpty, IsLowest, IsIdle}
 use Rattle.event_queue.proofs.Marks.{lowest_left}
@@ -176,35 +175,19 @@ module _ (c : Circuit) (w : IsCircuit c) (f g : Fault) (wiring : Wiring) (wired 
         }
 
     module _ (none : IsEmpty queue) where
-      marked_onward : (n from line : ℕ) → bit_at marks from ≡ true → leads_within c n from line ≡ true → bit_at marks line ≡ true
-      marked_onward zero from line m t = subst (λ l. bit_at marks l ≡ true) (eqb-true from line t) m
-      marked_onward (suc n) from line m t = elim (or_cases (from == line) (list_any (leads_within c n from) (pins_of c line)) t) [
-        | inl here ↦ subst (λ l. bit_at marks l ≡ true) (eqb-true from line here) m
-        | inr through ↦
-            let pin = passing (leads_within c n from) (pins_of c line) through in
-            spread.onward pin.0 line (marked_onward n from pin.0 m pin.2) pin.1 refl (λ place h e. none place)
-      ]
-
-      marked_from : (first : Option ℕ) → ((from : ℕ) → first ≡ Some from → bit_at marks from ≡ true) → (line : ℕ) → option_map_or (λ from. leads_to c from line) first false ≡ true → bit_at marks line ≡ true
-      unfolding leads_to
-      marked_from None begun line t = cc
-      marked_from (Some from) begun line t = marked_onward (length c.gates) from line (begun from refl) t
-
       marked_first : (h : Fault) → ((l : ℕ) → is_first_changed h l ≡ true → begins_at f g l ≡ true) → (from : ℕ) → first_changed h ≡ Some from → bit_at marks from ≡ true
       marked_first h begins from e = spread.begun from (begins from (ap (λ o. option_map_or (λ l. l == from) o false) e ∙ eq-eqb from from refl)) refl
 
-      marked_split : (line : ℕ) → is_split c f g line ≡ true → bit_at marks line ≡ true
-      unfolding is_split reaches_line
-      marked_split line t = elim (or_cases (reaches_line c f line) (reaches_line c g line) t) [
-        | inl one ↦ marked_from (first_changed f) (marked_first f (λ l e. or_left (is_first_changed f l) (is_first_changed g l) e)) line one
-        | inr two ↦ marked_from (first_changed g) (marked_first g (λ l e. or_right (is_first_changed f l) (is_first_changed g l) e)) line two
-      ]
+      marked : (line : ℕ) → is_split c f g line ≡ true → bit_at marks line ≡ true
+      marked = marked_split c marks (λ read reader m feeds. spread.onward read reader m feeds refl (λ place h e. none place)) f g
+          (marked_first f (λ l e. or_left (is_first_changed f l) (is_first_changed g l) e))
+          (marked_first g (λ l e. or_right (is_first_changed f l) (is_first_changed g l) e))
 
       -- if no gate waits, exactly the split lines are marked
       pub spread_marks : length marks ≡ line_count c → AreMarksOfTest (is_split c f g) (line_count c) marks
       spread_marks whole = record {
         whole = whole;
-        each = λ line h. both_ways (bit_at marks line) (is_split c f g line) (spread.split line) (marked_split line);
+        each = λ line h. both_ways (bit_at marks line) (is_split c f g line) (spread.split line) (marked line);
       }
 
       -- if no gate waits, each line has its pairs

@@ -7,7 +7,7 @@ use std::alloc::{AllocError, Global};
 use std::marker::Model;
 
 /// A mark for each line, and a list of the lines that are marked.
-#[derive(Drop)]
+#[derive(Debug, Drop)]
 pub(crate) struct Cone {
     marks: Vec<bool>,
     lines: Vec<u32>,

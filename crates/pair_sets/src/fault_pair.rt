@@ -17,7 +17,7 @@ use net_model::{
 };
 
 /// Two faults and their circuit.
-#[derive(Clone, Copy)]
+#[derive(Clone, Copy, Debug)]
 pub(crate) struct FaultPair<'a> {
     pub(crate) circuit: &'a Circuit,
     pub(crate) f: Fault,

@@ -11,7 +11,7 @@ use net_model::Fold;
 use std::marker::Model;
 
 /// A set of pairs of bits: whether each of the four is in it.
-#[derive(Clone, Copy, PartialEq, Eq)]
+#[derive(Clone, Copy, Debug, PartialEq, Eq)]
 pub struct PairSet {
     // A binary digit for each pair. The two bits of a pair, the first one the higher, are its digit's number.
     digits: u8,

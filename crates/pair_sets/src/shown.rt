@@ -10,7 +10,7 @@ use std::marker::Model;
 
 /// A set of pairs for each place, the number of places whose pairs aren't all equal (`unlike`), and the number of
 /// places whose pairs are all unequal (`apart`).
-#[derive(Drop)]
+#[derive(Debug, Drop)]
 pub(crate) struct Shown {
     pairs: Vec<PairSet>,
     unlike: usize,

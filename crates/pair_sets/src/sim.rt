@@ -25,7 +25,7 @@ use std::alloc::{AllocError, Global};
 use std::marker::Model;
 
 // A fixed source with its bit, and the number of changes of pairs before it was fixed.
-#[derive(Clone, Copy)]
+#[derive(Clone, Copy, Debug)]
 pub(crate) struct Level {
     source: u32,
     bit: bool,
@@ -34,6 +34,7 @@ pub(crate) struct Level {
 
 /// Two faults under a cube of input vectors: each line has the pairs of values that they may give it, if what the pins
 /// of a gate see is taken as independent. It borrows the circuit and keeps copies of the faults.
+#[derive(Debug)]
 pub struct PairSim<'a> {
     pair: FaultPair<'a>,
     base: Vec<PairSet>,

@@ -22,7 +22,7 @@ use std::alloc::{AllocError, Global};
 
 /// The reached positions, and for each position the pairs that it shows, or the equal pairs of both values if it isn't
 /// reached.
-#[derive(Drop)]
+#[derive(Debug, Drop)]
 pub(crate) struct Tally {
     waiting: NumberQueue,
     pub(crate) reached: Vec<u32>,

@@ -8,14 +8,14 @@ use crate::pair_set::PairSet;
 use std::alloc::{AllocError, Global};
 
 /// A line whose pairs changed, and the pairs that it had before.
-#[derive(Clone, Copy)]
+#[derive(Clone, Copy, Debug)]
 pub(crate) struct Change {
     pub(crate) line: u32,
     pub(crate) was: PairSet,
 }
 
 /// The pairs of all lines, and the changes that led to them.
-#[derive(Drop)]
+#[derive(Debug, Drop)]
 pub(crate) struct PairTrail {
     pub(crate) sets: Vec<PairSet>,
     pub(crate) changes: Vec<Change>,

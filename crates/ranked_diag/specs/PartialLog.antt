@@ -1,6 +1,7 @@
 -- Partial tester logs: lines of some patterns, ascending, with the bits that were observed.
 use Rattle.std.specs.Prelude.{◌≡◌, ◌≢◌, ℕ, ◌+◌, ◌<◌, ◌≤◌, ◌^◌, List, [], ◌∷◌, ◌++◌, length, map, flat_map, decimal, All}
 use Rattle.std.specs.List.Sorted.{IsStrictlyIncreasing}
+use Rattle.net_model.specs.Ascii.{line_feed, space}
 use Rattle.diagnose.specs.declared.fault.LogKind.{LogKind}
 use Rattle.diagnose.specs.declared.fault.LogKind.TheVariants.{TooLong, Syntax, Order, Width}
 use Rattle.text_fields.specs.Fields.{Text}
@@ -14,11 +15,11 @@ Line = ℕ × List Seen
 
 -- the text of a line of a partial log, without its LF
 abbrev pub partial_line : Line → Text
-partial_line line = decimal line.0 ++ 32 ∷ seen_text line.1
+partial_line line = decimal line.0 ++ space ∷ seen_text line.1
 
 -- the text of lines, each with its LF
 abbrev pub partial_text : List Line → Text
-partial_text lines = flat_map (λ line. partial_line line ++ 10 ∷ []) lines
+partial_text lines = flat_map (λ line. partial_line line ++ line_feed ∷ []) lines
 
 -- the patterns of the lines, in their order
 abbrev pub patterns_of : List Line → List ℕ
@@ -44,7 +45,7 @@ pub record IsPartialLog (patterns positions : ℕ) (text : Text) (lines : List L
 
 -- The text begins with this line, whose pattern is below 2^32, and continues with `more`.
 abbrev pub BeginsWithPartial : Text → Line → Text → Type 0
-BeginsWithPartial text line more = (line.0 < 2 ^ 32) × (text ≡ partial_line line ++ 10 ∷ more)
+BeginsWithPartial text line more = (line.0 < 2 ^ 32) × (text ≡ partial_line line ++ line_feed ∷ more)
 
 -- The text begins with no line of a partial log.
 abbrev pub HasNoPartial : Text → Type 0

@@ -43,7 +43,7 @@ pub fn check_tree(
 
 /// Checks trees of evidence about pairs of a circuit's faults, one after another. The simulation is made for a tree
 /// that needs it, and kept after a right one for the next, which then costs what its two faults reach.
-#[derive(Drop)]
+#[derive(Debug, Drop)]
 pub struct TreeChecker<'a> {
     alloc: Global,
     circuit: &'a Circuit,
@@ -137,7 +137,7 @@ fn check_open_leaf(tokens: &[Token], kind: EvidenceKind, cubes: u32) -> Result<(
 
 // A cube on the way through a tree: the splits above it with their bits, the last one last. There is none when the
 // tree is whole.
-#[derive(Drop)]
+#[derive(Debug, Drop)]
 struct Walk<'a> {
     sim: PairSim<'a>,
     scope: PairScope<'a>,

@@ -13,7 +13,7 @@ use clap::{Arg, ArgAction, ArgMatches, Command, Error, value_parser};
 use std::alloc::{AllocError, Global};
 
 /// Why words give no request: they aren't understood, or memory is missing.
-#[derive(Drop)]
+#[derive(Debug, Drop)]
 pub enum WordsFault {
     NotUnderstood,
     NoMemory,

@@ -55,11 +55,11 @@ pub(crate) fn gen_in<'a>(matches: &ArgMatches<'a>) -> Request<'a>
     ensures limits { HasLimits result }
 {
     let blocks = number_in(matches, "blocks", 0, BLOCKS_LIMIT);
-    Request::Gen(
-        name_in(matches, "bench"),
-        name_in(matches, "result"),
-        budgets_in(matches, blocks),
-    )
+    Request::Gen {
+        bench: name_in(matches, "bench"),
+        result: name_in(matches, "result"),
+        budgets: budgets_in(matches, blocks),
+    }
 }
 
 // Returns the budgets with `blocks` blocks and with the options that bound the search.
@@ -93,12 +93,12 @@ pub(crate) fn dict_in<'a>(matches: &ArgMatches<'a>) -> Option<Request<'a>>
     ensures limits { IfSome result HasLimits }
 {
     let kind = kind_named(name_in(matches, "kind"))?;
-    Some(Request::MakeDict(
+    Some(Request::MakeDict {
         kind,
-        name_in(matches, "bench"),
-        name_in(matches, "result"),
-        name_in(matches, "dict"),
-    ))
+        bench: name_in(matches, "bench"),
+        result: name_in(matches, "result"),
+        dict: name_in(matches, "dict"),
+    })
 }
 
 /// Returns the definition of `faults`: one name.
@@ -113,7 +113,9 @@ pub(crate) fn faults_in<'a>(matches: &ArgMatches<'a>) -> Request<'a>
     ensures asked { asked result ≡ faults_by (rows_of (found_of matches.now)) }
     ensures limits { HasLimits result }
 {
-    Request::ListFaults(name_in(matches, "bench"))
+    Request::ListFaults {
+        bench: name_in(matches, "bench"),
+    }
 }
 
 /// Returns the definition of `synth`: a number and two names.
@@ -129,11 +131,11 @@ pub(crate) fn synth_in<'a>(matches: &ArgMatches<'a>) -> Request<'a>
     ensures asked { asked result ≡ synth_by (rows_of (found_of matches.now)) }
     ensures limits { HasLimits result }
 {
-    Request::Synth(
-        number_in(matches, "n", 1, SYNTH_LIMIT),
-        name_in(matches, "bench"),
-        name_in(matches, "result"),
-    )
+    Request::Synth {
+        n: number_in(matches, "n", 1, SYNTH_LIMIT),
+        bench: name_in(matches, "bench"),
+        result: name_in(matches, "result"),
+    }
 }
 
 /// Returns the definition of `compact`: three names.
@@ -148,11 +150,11 @@ pub(crate) fn compact_in<'a>(matches: &ArgMatches<'a>) -> Request<'a>
     ensures asked { asked result ≡ compact_by (rows_of (found_of matches.now)) }
     ensures limits { HasLimits result }
 {
-    Request::Compact(
-        name_in(matches, "bench"),
-        name_in(matches, "result"),
-        name_in(matches, "new"),
-    )
+    Request::Compact {
+        bench: name_in(matches, "bench"),
+        result: name_in(matches, "result"),
+        new: name_in(matches, "new"),
+    }
 }
 
 /// Returns the definition of `rank`: two names and an option.
@@ -168,11 +170,11 @@ pub(crate) fn rank_in<'a>(matches: &ArgMatches<'a>) -> Request<'a>
     ensures asked { asked result ≡ rank_by (rows_of (found_of matches.now)) }
     ensures limits { HasLimits result }
 {
-    Request::Rank(
-        name_in(matches, "dict"),
-        name_in(matches, "log"),
-        number_in(matches, "within", 0, WITHIN_LIMIT),
-    )
+    Request::Rank {
+        dict: name_in(matches, "dict"),
+        log: name_in(matches, "log"),
+        within: number_in(matches, "within", 0, WITHIN_LIMIT),
+    }
 }
 
 /// Returns the definition of `adapt`: three names.
@@ -187,11 +189,11 @@ pub(crate) fn adapt_in<'a>(matches: &ArgMatches<'a>) -> Request<'a>
     ensures asked { asked result ≡ adapt_by (rows_of (found_of matches.now)) }
     ensures limits { HasLimits result }
 {
-    Request::Adapt(
-        name_in(matches, "bench"),
-        name_in(matches, "result"),
-        name_in(matches, "plan"),
-    )
+    Request::Adapt {
+        bench: name_in(matches, "bench"),
+        result: name_in(matches, "result"),
+        plan: name_in(matches, "plan"),
+    }
 }
 
 // Returns the definition of a command: three names, the last of them a log.
@@ -221,11 +223,16 @@ pub(crate) fn expect_in<'a>(matches: &ArgMatches<'a>) -> Request<'a>
     ensures limits { HasLimits result }
 {
     let bench = name_in(matches, "bench");
-    let results = name_in(matches, "result");
+    let result = name_in(matches, "result");
     let log = name_in(matches, "log");
     match text_in(matches, "applied") {
-        Some(vectors) => Request::ExpectAt(bench, results, log, vectors),
-        None => Request::Expect(bench, results, log),
+        Some(vectors) => Request::ExpectAt {
+            bench,
+            result,
+            log,
+            vectors,
+        },
+        None => Request::Expect { bench, result, log },
     }
 }
 
@@ -244,12 +251,23 @@ pub(crate) fn suspects_in<'a>(matches: &ArgMatches<'a>) -> Request<'a>
     ensures limits { HasLimits result }
 {
     let bench = name_in(matches, "bench");
-    let results = name_in(matches, "result");
+    let result = name_in(matches, "result");
     let log = name_in(matches, "log");
     let most = number_in(matches, "most", 1, MOST_LIMIT);
     match text_in(matches, "applied") {
-        Some(vectors) => Request::SuspectsAt(bench, results, log, most, vectors),
-        None => Request::Suspects(bench, results, log, most),
+        Some(vectors) => Request::SuspectsAt {
+            bench,
+            result,
+            log,
+            most,
+            vectors,
+        },
+        None => Request::Suspects {
+            bench,
+            result,
+            log,
+            most,
+        },
     }
 }
 
@@ -266,11 +284,16 @@ pub(crate) fn cover_in<'a>(matches: &ArgMatches<'a>) -> Request<'a>
     ensures limits { HasLimits result }
 {
     let bench = name_in(matches, "bench");
-    let results = name_in(matches, "result");
+    let result = name_in(matches, "result");
     let log = name_in(matches, "log");
     match text_in(matches, "applied") {
-        Some(vectors) => Request::CoverAt(bench, results, log, vectors),
-        None => Request::Cover(bench, results, log),
+        Some(vectors) => Request::CoverAt {
+            bench,
+            result,
+            log,
+            vectors,
+        },
+        None => Request::Cover { bench, result, log },
     }
 }
 
@@ -291,12 +314,12 @@ pub(crate) fn grade_in<'a>(matches: &ArgMatches<'a>) -> Request<'a>
         cubes: 0,
         conflicts: 0,
     };
-    Request::TopUp(
-        name_in(matches, "bench"),
-        name_in(matches, "vectors"),
-        name_in(matches, "result"),
+    Request::TopUp {
+        bench: name_in(matches, "bench"),
+        vectors: name_in(matches, "vectors"),
+        result: name_in(matches, "result"),
         budgets,
-    )
+    }
 }
 
 /// Returns the definition of `topup`: three names and two options.
@@ -311,12 +334,12 @@ pub(crate) fn topup_in<'a>(matches: &ArgMatches<'a>) -> Request<'a>
     ensures asked { asked result ≡ topup_by (rows_of (found_of matches.now)) }
     ensures limits { HasLimits result }
 {
-    Request::TopUp(
-        name_in(matches, "bench"),
-        name_in(matches, "vectors"),
-        name_in(matches, "result"),
-        budgets_in(matches, 0),
-    )
+    Request::TopUp {
+        bench: name_in(matches, "bench"),
+        vectors: name_in(matches, "vectors"),
+        result: name_in(matches, "result"),
+        budgets: budgets_in(matches, 0),
+    }
 }
 
 /// Returns the definition of `bridges`: three names and three options.
@@ -335,12 +358,25 @@ pub(crate) fn bridges_in<'a>(matches: &ArgMatches<'a>) -> Request<'a>
     ensures limits { HasLimits result }
 {
     let bench = name_in(matches, "bench");
-    let results = name_in(matches, "result");
+    let result = name_in(matches, "result");
     let log = name_in(matches, "log");
     let most = number_in(matches, "most", 1, MOST_LIMIT);
     let within = number_in(matches, "within", 0, WITHIN_LIMIT);
     match text_in(matches, "applied") {
-        Some(vectors) => Request::BridgesAt(bench, results, log, most, within, vectors),
-        None => Request::Bridges(bench, results, log, most, within),
+        Some(vectors) => Request::BridgesAt {
+            bench,
+            result,
+            log,
+            most,
+            within,
+            vectors,
+        },
+        None => Request::Bridges {
+            bench,
+            result,
+            log,
+            most,
+            within,
+        },
     }
 }

@@ -43,7 +43,7 @@ pub(crate) enum Verb {
 /// What the entry of a number in a dictionary says: at which patterns it answers otherwise than the fault-free circuit
 /// (`PassFail`), all that it answers (`Full`), or at which patterns it answers otherwise than chosen baselines
 /// (`SameDiff`).
-#[derive(Clone, Copy)]
+#[derive(Clone, Copy, Debug)]
 pub enum EntryKind {
     PassFail,
     Full,
@@ -51,51 +51,140 @@ pub enum EntryKind {
 }
 
 /// What the words ask for, with each file given by its name.
-#[derive(Clone, Copy)]
+#[derive(Clone, Copy, Debug)]
 pub enum Request<'a> {
     /// To generate a result for a netlist.
-    Gen(&'a str, &'a str, Budgets),
+    Gen {
+        bench: &'a str,
+        result: &'a str,
+        budgets: Budgets,
+    },
     /// To check a result for a netlist.
-    Check(&'a str, &'a str),
+    Check {
+        bench: &'a str,
+        result: &'a str,
+    },
     /// To make a dictionary for a netlist and a result.
-    MakeDict(EntryKind, &'a str, &'a str, &'a str),
+    MakeDict {
+        kind: EntryKind,
+        bench: &'a str,
+        result: &'a str,
+        dict: &'a str,
+    },
     /// To write a dictionary again under a new name.
-    Convert(&'a str, &'a str),
+    Convert {
+        old: &'a str,
+        new: &'a str,
+    },
     /// To list the numbers that a dictionary and a log point to.
-    Diagnose(&'a str, &'a str),
+    Diagnose {
+        dict: &'a str,
+        log: &'a str,
+    },
     /// To list the faults of a netlist.
-    ListFaults(&'a str),
+    ListFaults {
+        bench: &'a str,
+    },
     /// To simulate a netlist at a list of vectors.
-    Simulate(&'a str, &'a str),
+    Simulate {
+        bench: &'a str,
+        vectors: &'a str,
+    },
     /// To write the netlist of a number and generate a result for it.
-    Synth(u32, &'a str, &'a str),
+    Synth {
+        n: u32,
+        bench: &'a str,
+        result: &'a str,
+    },
     /// To leave out the patterns of a result that its classes don't need, for a netlist.
-    Compact(&'a str, &'a str, &'a str),
-    /// To rank the numbers by a dictionary and a partial log, up to the given number of mismatches above the least.
-    Rank(&'a str, &'a str, u32),
+    Compact {
+        bench: &'a str,
+        result: &'a str,
+        new: &'a str,
+    },
+    /// To rank the numbers by a dictionary and a partial log, up to `within` mismatches above the least.
+    Rank {
+        dict: &'a str,
+        log: &'a str,
+        within: u32,
+    },
     /// To plan which pattern to ask next, for a netlist and a result.
-    Adapt(&'a str, &'a str, &'a str),
+    Adapt {
+        bench: &'a str,
+        result: &'a str,
+        plan: &'a str,
+    },
     /// To say where a log of answers leads in a plan.
-    Follow(&'a str, &'a str),
+    Follow {
+        plan: &'a str,
+        log: &'a str,
+    },
     /// To write the log that a chip without a fault gives, for a netlist and a result.
-    Expect(&'a str, &'a str, &'a str),
-    /// To list the classes that a partial log suspects, at most the given number of them, for a netlist and a result.
-    Suspects(&'a str, &'a str, &'a str, u32),
+    Expect {
+        bench: &'a str,
+        result: &'a str,
+        log: &'a str,
+    },
+    /// To list the classes that a partial log suspects, at most `most` of them, for a netlist and a result.
+    Suspects {
+        bench: &'a str,
+        result: &'a str,
+        log: &'a str,
+        most: u32,
+    },
     /// To list classes that together explain what fails in a partial log, for a netlist and a result.
-    Cover(&'a str, &'a str, &'a str),
+    Cover {
+        bench: &'a str,
+        result: &'a str,
+        log: &'a str,
+    },
     /// To keep each vector of a list that splits a class, and generate a result after them, for a netlist.
-    TopUp(&'a str, &'a str, &'a str, Budgets),
-    /// To list bridges, at most the first number of them, that explain all failing patterns of a partial log except at
-    /// most the second number, for a netlist and a result.
-    Bridges(&'a str, &'a str, &'a str, u32, u32),
+    TopUp {
+        bench: &'a str,
+        vectors: &'a str,
+        result: &'a str,
+        budgets: Budgets,
+    },
+    /// To list bridges, at most `most` of them, that explain all failing patterns of a partial log except at most
+    /// `within`, for a netlist and a result.
+    Bridges {
+        bench: &'a str,
+        result: &'a str,
+        log: &'a str,
+        most: u32,
+        within: u32,
+    },
     /// As `Expect`, for a list of vectors that were applied.
-    ExpectAt(&'a str, &'a str, &'a str, &'a str),
+    ExpectAt {
+        bench: &'a str,
+        result: &'a str,
+        log: &'a str,
+        vectors: &'a str,
+    },
     /// As `Suspects`, with a log that is numbered by a list of vectors that were applied.
-    SuspectsAt(&'a str, &'a str, &'a str, u32, &'a str),
+    SuspectsAt {
+        bench: &'a str,
+        result: &'a str,
+        log: &'a str,
+        most: u32,
+        vectors: &'a str,
+    },
     /// As `Cover`, with a log that is numbered by a list of vectors that were applied.
-    CoverAt(&'a str, &'a str, &'a str, &'a str),
+    CoverAt {
+        bench: &'a str,
+        result: &'a str,
+        log: &'a str,
+        vectors: &'a str,
+    },
     /// As `Bridges`, with a log that is numbered by a list of vectors that were applied.
-    BridgesAt(&'a str, &'a str, &'a str, u32, u32, &'a str),
+    BridgesAt {
+        bench: &'a str,
+        result: &'a str,
+        log: &'a str,
+        most: u32,
+        within: u32,
+        vectors: &'a str,
+    },
 }
 
 /// Returns the request of the words: the first is a command, which reads the others. Memory aside, returns
@@ -191,23 +280,32 @@ fn requested<'a>(verb: Verb, matches: &ArgMatches<'a>) -> Option<Request<'a>>
 {
     match verb {
         Verb::Gen => Some(gen_in(matches)),
-        Verb::Check => Some(Request::Check(name_in(matches, "bench"), name_in(matches, "result"))),
+        Verb::Check => Some(Request::Check {
+            bench: name_in(matches, "bench"),
+            result: name_in(matches, "result"),
+        }),
         Verb::Dict => dict_in(matches),
-        Verb::Convert => Some(Request::Convert(name_in(matches, "old"), name_in(matches, "new"))),
-        Verb::Diagnose => Some(Request::Diagnose(
-            name_in(matches, "dict"),
-            name_in(matches, "log"),
-        )),
+        Verb::Convert => Some(Request::Convert {
+            old: name_in(matches, "old"),
+            new: name_in(matches, "new"),
+        }),
+        Verb::Diagnose => Some(Request::Diagnose {
+            dict: name_in(matches, "dict"),
+            log: name_in(matches, "log"),
+        }),
         Verb::Faults => Some(faults_in(matches)),
-        Verb::Sim => Some(Request::Simulate(
-            name_in(matches, "bench"),
-            name_in(matches, "vectors"),
-        )),
+        Verb::Sim => Some(Request::Simulate {
+            bench: name_in(matches, "bench"),
+            vectors: name_in(matches, "vectors"),
+        }),
         Verb::Synth => Some(synth_in(matches)),
         Verb::Compact => Some(compact_in(matches)),
         Verb::Rank => Some(rank_in(matches)),
         Verb::Adapt => Some(adapt_in(matches)),
-        Verb::Follow => Some(Request::Follow(name_in(matches, "plan"), name_in(matches, "log"))),
+        Verb::Follow => Some(Request::Follow {
+            plan: name_in(matches, "plan"),
+            log: name_in(matches, "log"),
+        }),
         Verb::Expect => Some(expect_in(matches)),
         Verb::Suspects => Some(suspects_in(matches)),
         Verb::Cover => Some(cover_in(matches)),

@@ -1,5 +1,6 @@
 -- Which line of a file that isn't valid is refused, and by which rule.
 use Rattle.std.specs.Prelude.{◌≡◌, ◌≢◌, ℕ, ◌+◌, ◌<◌, ◌≤◌, min, not, ◌==◌, take_while, List, [], ◌∷◌, ◌++◌, length}
+use Rattle.net_model.specs.Ascii.{line_feed}
 use Rattle.net_model.specs.declared.fault.Fault.{Fault}
 use Rattle.net_model.specs.Circuit.{Circuit}
 use Rattle.net_model.specs.ClassTable.{ClassTable}
@@ -72,11 +73,11 @@ ContentRefused c t before line.End reason = ⊥
 
 -- How long the first line of the text is, with its LF if it has one.
 abbrev pub line_length : Text → ℕ
-line_length rest = min (length rest) (length (take_while (λ byte. not (byte == 10)) rest) + 1)
+line_length rest = min (length rest) (length (take_while (λ byte. not (byte == line_feed)) rest) + 1)
 
 -- The first line of the text, with its LF, is no record that can be written.
 abbrev pub IsNoRecord : Text → Type 0
-IsNoRecord rest = (r : Record) (more : Text) → HasSpelling r → rest ≢ spelling r ++ 10 ∷ more
+IsNoRecord rest = (r : Record) (more : Text) → HasSpelling r → rest ≢ spelling r ++ line_feed ∷ more
 
 -- Nothing is left, and no line before says that it is the end.
 pub record EndsTooEarly (before : List Record) (rest : Text) : Type 0 where
@@ -92,7 +93,7 @@ pub record IsUnreadableRecord (text : Text) : Type 0 where
 pub record BeginsWithRecord (text : Text) (r : Record) : Type 0 where
   pub spelled : HasSpelling r
   pub more : Text
-  pub text_is : text ≡ spelling r ++ 10 ∷ more
+  pub text_is : text ≡ spelling r ++ line_feed ∷ more
 
 -- A record of this kind isn't allowed after these lines.
 pub record IsMisplaced (c : Circuit) (before : List Record) (r : Record) : Type 0 where

@@ -16,7 +16,7 @@ pub struct Summary {
 }
 
 /// What a valid result states: its counts, its budgets and patterns, and the classes that the patterns tell apart.
-#[derive(Drop)]
+#[derive(Debug, Drop)]
 pub struct Checked {
     pub summary: Summary,
     pub budgets: Budgets,

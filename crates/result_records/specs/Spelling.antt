@@ -2,6 +2,7 @@
 use Rattle.std.specs.Prelude.{◌≡◌, ◌≢◌, ℕ, ◌<◌, ◌^◌, List, [], ◌∷◌, ◌++◌, map, flat_map, codes, decimal, Option, None, Some, IsSome, if◌then◌else◌, All, ⊤}
 use Rattle.std.specs.Option.{option_to_list}
 use Rattle.std.specs.List.{join_with_byte}
+use Rattle.net_model.specs.Ascii.{line_feed, space}
 use Rattle.net_model.specs.BitText.{bits_text}
 use Rattle.text_fields.specs.Fields.{Text, IsNumber}
 use Rattle.clause_pool.specs.Literal.{Literal}
@@ -77,15 +78,15 @@ fields End = codes "end" ∷ []
 
 -- The fields as text, a blank before each.
 abbrev pub behind_blanks : List Text → Text
-behind_blanks texts = flat_map (λ text. 32 ∷ text) texts
+behind_blanks texts = flat_map (λ text. space ∷ text) texts
 
 -- The record as text: its fields with one blank between two, without an LF.
 unfoldable pub spelling : Record → Text
-spelling r = join_with_byte 32 (fields r)
+spelling r = join_with_byte space (fields r)
 
 -- The records as text: each on a line, with its LF.
 abbrev pub text_of : List Record → Text
-text_of records = flat_map (λ r. spelling r ++ 10 ∷ []) records
+text_of records = flat_map (λ r. spelling r ++ line_feed ∷ []) records
 
 -- ---- which records can be written
 

@@ -1,6 +1,7 @@
 //! Lines of bytes that come in pieces.
 
 ghost use Rattle.std.specs.Prelude.{◌≡◌, ◌≤◌, ◌++◌, [], IfOk, OnOk, OnErr, MatchOption, Contains, length};
+ghost use Rattle.net_model.specs.Ascii.{line_feed};
 ghost use Rattle.result_records.specs.Held.{IsFirstLine, IsFirstFrom, IsWithoutLineFeed};
 
 use std::alloc::{AllocError, Global};
@@ -9,7 +10,7 @@ use std::marker::Model;
 const LF: u8 = b'\n';
 
 /// Bytes that were fed and not yet taken out as lines.
-#[derive(Drop)]
+#[derive(Debug, Drop)]
 pub struct Lines {
     // what was fed; the bytes before `start` are taken
     bytes: Vec<u8>,
@@ -54,7 +55,7 @@ impl Lines {
     /// Takes the first line out and returns it without its LF, or returns none if what is held has no LF. Then, and
     /// after an error, nothing has changed.
     pub fn take_line(&mut self) -> Result<Option<Vec<u8>>, AllocError>
-        ensures ok { IfOk result (λ taken. MatchOption taken ((¬ Contains self.old 10) × (self.new ≡ self.old)) (λ line. IsFirstLine self.old line.items self.new)) }
+        ensures ok { IfOk result (λ taken. MatchOption taken ((¬ Contains self.old line_feed) × (self.new ≡ self.old)) (λ line. IsFirstLine self.old line.items self.new)) }
         ensures err { OnErr result (self.new ≡ self.old) }
     {
         let Some(end) = find_end(&self.bytes, self.looked) else {

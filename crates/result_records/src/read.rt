@@ -2,6 +2,7 @@
 
 ghost use Rattle.std.specs.Prelude.{◌≡◌, ◌≢◌, ◌==◌, ℕ, [], ◌∷◌, codes, decimal, map, IfOk, IsErrOf, MatchOption};
 ghost use Rattle.std.specs.List.{slice_split};
+ghost use Rattle.net_model.specs.Ascii.{space};
 ghost use Rattle.result_records.specs.declared.fault.RecordFault.TheVariants as record_fault;
 ghost use Rattle.text_fields.specs.Fields.{IsNumber};
 ghost use Rattle.result_records.specs.Spelling.{spelling, fields, HasSpelling, IsNoSpelling};
@@ -28,7 +29,7 @@ pub fn read_record(alloc: Global, line: &[u8]) -> Result<Record, RecordFault>
 
 // Returns the parts of the text between its blanks.
 fn fields_of<'a>(alloc: Global, text: &'a str) -> Result<Vec<&'a str>, AllocError>
-    ensures { IfOk result (λ parts. map (λ f. f.now) parts.items ≡ slice_split (λ b. b == 32) text.now) }
+    ensures { IfOk result (λ parts. map (λ f. f.now) parts.items ≡ slice_split (λ b. b == space) text.now) }
 {
     text.split(' ').collect(alloc)
 }

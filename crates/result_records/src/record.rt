@@ -54,7 +54,7 @@ impl Drop for Evidence {
 /// A line of a result file: the sources, positions and numbers (`Head`); the budgets; a pattern; evidence (`Same`); a
 /// class with its parent and the pattern that cut it off, none for class 0; a number with its class and mark
 /// (`Member`); or the end.
-#[derive(Drop)]
+#[derive(Debug, Drop)]
 pub enum Record {
     Head(u32, u32, u32),
     Budget(Budgets),

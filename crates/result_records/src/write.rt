@@ -3,6 +3,7 @@
 ghost use Rattle.std.specs.Prelude.{◌≡◌, ◌++◌, ◌∷◌, ℕ, List, [], IfOk, OnOk, OnErr, map, flat_map, codes, decimal};
 ghost use Rattle.std.specs.String.{string_bytes};
 ghost use Rattle.std.specs.List.{join_with_byte};
+ghost use Rattle.net_model.specs.Ascii.{line_feed, space};
 ghost use Rattle.net_model.specs.BitText.{bits_text};
 ghost use Rattle.result_records.specs.Spelling.{spelling, text_of, token_field, evidence_fields};
 ghost use Rattle.result_records.specs.declared.record.Record.TheVariants.{Head, Budget, Pattern, Same, Class, Member, End};
@@ -17,7 +18,7 @@ use text_fields::push_bits;
 
 /// Returns the line of the record, with its LF.
 pub fn write_record(alloc: Global, r: &Record) -> Result<Vec<u8>, AllocError>
-    ensures { IfOk result (λ line. line.items ≡ spelling r.now ++ 10 ∷ []) }
+    ensures { IfOk result (λ line. line.items ≡ spelling r.now ++ line_feed ∷ []) }
 {
     let mut line = String::new(alloc);
     push_record(&mut line, r)?;
@@ -92,7 +93,7 @@ pub fn push_pattern(text: &mut String, bits: &Bits) -> Result<(), AllocError>
 
 // Appends the bits and the LF. After an error some bytes may have been appended.
 fn push_digits(text: &mut String, bits: &Bits) -> Result<(), AllocError>
-    ensures ok { OnOk result (string_bytes text.new ≡ string_bytes text.old ++ bits_text bits.now ++ 10 ∷ []) }
+    ensures ok { OnOk result (string_bytes text.new ≡ string_bytes text.old ++ bits_text bits.now ++ line_feed ∷ []) }
     ensures err { OnErr result ((some : List ℕ) × (string_bytes text.new ≡ string_bytes text.old ++ some)) }
 {
     push_bits(text, bits.len(), |at| bits.get(at))?;
@@ -124,7 +125,7 @@ fn push_tree_line(
     kind: &str,
     tree: &Tree,
 ) -> Result<(), AllocError>
-    ensures { OnOk result (string_bytes text.new ≡ string_bytes text.old ++ join_with_byte 32 (codes "same" ∷ decimal member ∷ decimal partner ∷ kind.now ∷ map token_field tree.now) ++ 10 ∷ []) }
+    ensures { OnOk result (string_bytes text.new ≡ string_bytes text.old ++ join_with_byte space (codes "same" ∷ decimal member ∷ decimal partner ∷ kind.now ∷ map token_field tree.now) ++ line_feed ∷ []) }
 {
     push_tree_fields(text, kind, member, partner, tree)?;
     text.push('\n')?;
@@ -140,7 +141,7 @@ fn push_log_line(
     tree: &Tree,
     log: &Log,
 ) -> Result<(), AllocError>
-    ensures { OnOk result (string_bytes text.new ≡ string_bytes text.old ++ join_with_byte 32 (codes "same" ∷ decimal member ∷ decimal partner ∷ kind.now ∷ evidence_fields tree.now log.now) ++ 10 ∷ []) }
+    ensures { OnOk result (string_bytes text.new ≡ string_bytes text.old ++ join_with_byte space (codes "same" ∷ decimal member ∷ decimal partner ∷ kind.now ∷ evidence_fields tree.now log.now) ++ line_feed ∷ []) }
 {
     push_tree_fields(text, kind, member, partner, tree)?;
     push_log(text, log)?;
@@ -156,7 +157,7 @@ fn push_tree_fields(
     partner: u32,
     tree: &Tree,
 ) -> Result<(), AllocError>
-    ensures { OnOk result (string_bytes text.new ≡ string_bytes text.old ++ join_with_byte 32 (codes "same" ∷ decimal member ∷ decimal partner ∷ kind.now ∷ map token_field tree.now)) }
+    ensures { OnOk result (string_bytes text.new ≡ string_bytes text.old ++ join_with_byte space (codes "same" ∷ decimal member ∷ decimal partner ∷ kind.now ∷ map token_field tree.now)) }
 {
     push_kind(text, member, partner, kind)?;
     push_tree(text, tree)?;
@@ -165,14 +166,14 @@ fn push_tree_fields(
 
 // Appends the fields of evidence up to its kind.
 fn push_kind(text: &mut String, member: u32, partner: u32, kind: &str) -> Result<(), AllocError>
-    ensures { OnOk result (string_bytes text.new ≡ string_bytes text.old ++ codes "same" ++ 32 ∷ decimal member ++ 32 ∷ decimal partner ++ 32 ∷ kind.now) }
+    ensures { OnOk result (string_bytes text.new ≡ string_bytes text.old ++ codes "same" ++ space ∷ decimal member ++ space ∷ decimal partner ++ space ∷ kind.now) }
 {
     write!(text, "same {member} {partner} {kind}")
 }
 
 // Appends the tokens of the tree, a blank before each.
 fn push_tree(text: &mut String, tree: &Tree) -> Result<(), AllocError>
-    ensures { OnOk result (string_bytes text.new ≡ string_bytes text.old ++ flat_map (λ token. 32 ∷ token_field token) tree.now) }
+    ensures { OnOk result (string_bytes text.new ≡ string_bytes text.old ++ flat_map (λ token. space ∷ token_field token) tree.now) }
 {
     for token in tree.as_slice() {
         push_token(text, *token)?;
@@ -182,7 +183,7 @@ fn push_tree(text: &mut String, tree: &Tree) -> Result<(), AllocError>
 
 // Appends a blank and the token.
 fn push_token(text: &mut String, token: Token) -> Result<(), AllocError>
-    ensures { OnOk result (string_bytes text.new ≡ string_bytes text.old ++ 32 ∷ token_field token) }
+    ensures { OnOk result (string_bytes text.new ≡ string_bytes text.old ++ space ∷ token_field token) }
 {
     match token {
         Token::Split(source) => write!(text, " {source}"),

@@ -3,6 +3,7 @@
 ghost use Rattle.std.specs.Prelude.{◌≡◌, ◌++◌, ◌∷◌, OnOk, Option, codes, decimal, flat_map, map};
 ghost use Rattle.std.specs.Option.{option_to_list};
 ghost use Rattle.std.specs.String.{string_bytes};
+ghost use Rattle.net_model.specs.Ascii.{space};
 ghost use Rattle.result_records.specs.Spelling.{behind_blanks, chain_fields, literal_field};
 
 use clause_pool::Lit;
@@ -41,7 +42,7 @@ fn push_fresh(text: &mut String, at: Option<Lit>) -> Result<(), AllocError>
 
 // Appends pivots and the numbers of clauses.
 fn push_steps(text: &mut String, steps: &[(Lit, u32)]) -> Result<(), AllocError>
-    ensures { OnOk result (string_bytes text.new ≡ string_bytes text.old ++ flat_map (λ step. (32 ∷ literal_field step.0) ++ 32 ∷ decimal step.1) steps.now) }
+    ensures { OnOk result (string_bytes text.new ≡ string_bytes text.old ++ flat_map (λ step. (space ∷ literal_field step.0) ++ space ∷ decimal step.1) steps.now) }
 {
     for step in steps {
         push_literal(text, step.0)?;
@@ -52,14 +53,14 @@ fn push_steps(text: &mut String, steps: &[(Lit, u32)]) -> Result<(), AllocError>
 
 // Appends a blank and the number.
 fn push_number(text: &mut String, number: u32) -> Result<(), AllocError>
-    ensures { OnOk result (string_bytes text.new ≡ string_bytes text.old ++ 32 ∷ decimal number) }
+    ensures { OnOk result (string_bytes text.new ≡ string_bytes text.old ++ space ∷ decimal number) }
 {
     write!(text, " {number}")
 }
 
 // Appends a blank and the literal.
 fn push_literal(text: &mut String, l: Lit) -> Result<(), AllocError>
-    ensures { OnOk result (string_bytes text.new ≡ string_bytes text.old ++ 32 ∷ literal_field l) }
+    ensures { OnOk result (string_bytes text.new ≡ string_bytes text.old ++ space ∷ literal_field l) }
 {
     let variable = l.variable();
     if l.positive() {

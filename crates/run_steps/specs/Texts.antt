@@ -1,5 +1,6 @@
 -- The lines of the console that say why words or a file are refused.
 use Rattle.std.specs.Prelude.{ℕ, List, ◌∷◌, ◌++◌, codes, decimal, flat_map, Option, Some, None}
+use Rattle.net_model.specs.Ascii.{space}
 use Rattle.bench_reader.specs.declared.fault.Place.{Place}
 use Rattle.bench_reader.specs.declared.fault.NetKind.{NetKind}
 use Rattle.bench_reader.specs.declared.fault.NetKind.TheVariants.{BadByte, Expected, UnknownGate, WrongPins, DrivenTwice, Undriven, TooLong}
@@ -35,7 +36,7 @@ unfoldable pub loop_start : Place → Text
 loop_start place = codes "netlist: Loop at byte " ++ (decimal place.byte ++ (codes ", line " ++ (decimal place.line ++ codes ":")))
 
 abbrev pub after_blank : Text → Text
-after_blank name = 32 ∷ name
+after_blank name = space ∷ name
 
 -- The line that refuses a loop of gates: where the walk along it begins, and the names along it.
 unfoldable pub loop_text : Place → List Text → Text

@@ -43,7 +43,7 @@ pub fn read_result<S: Shelf>(
 }
 
 /// A valid result: all of its bytes, and what they state.
-#[derive(Drop)]
+#[derive(Debug, Drop)]
 pub struct WholeResult {
     pub bytes: Vec<u8>,
     pub checked: Checked,

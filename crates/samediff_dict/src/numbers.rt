@@ -10,7 +10,7 @@ use std::marker::Model;
 /// A list of numbers that are mostly 0.
 ///
 /// In memory there are the numbers that aren't 0, and one and a half bits for each number.
-#[derive(Drop)]
+#[derive(Debug, Drop)]
 pub struct SparseNumbers {
     // A bit for each number, which is 1 if it isn't 0, in words of 64, the lowest first.
     marks: Vec<u64>,

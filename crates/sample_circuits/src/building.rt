@@ -14,7 +14,7 @@ const LIMIT: usize = 67_108_864;
 
 /// The parts of a circuit: how many sources it has, each gate's kind with the lines that it reads, and the observed
 /// lines.
-#[derive(Clone, Copy)]
+#[derive(Clone, Copy, Debug)]
 pub struct CircuitParts<'a> {
     pub sources: u32,
     pub gates: &'a [(Kind, &'a [u32])],

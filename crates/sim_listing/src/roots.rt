@@ -9,7 +9,7 @@ use fault_collapse::{Forest, Subject};
 use std::alloc::{AllocError, Global};
 
 /// Roots of fault numbers, and for each number the place of its root among them.
-#[derive(Drop)]
+#[derive(Debug, Drop)]
 pub struct RootPlaces {
     pub roots: Vec<u32>,
     pub places: Vec<u32>,

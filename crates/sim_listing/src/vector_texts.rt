@@ -18,7 +18,7 @@ use word_sim::{Block, LANES};
 
 /// What a circuit answers to vectors, as texts that are made one at a time. If a vector isn't among those that were
 /// simulated last, it is simulated together with the vectors after it, at most as many as there are lanes.
-#[derive(Drop)]
+#[derive(Debug, Drop)]
 pub struct VectorTexts<'a> {
     numbers: AnswerNumbers<'a>,
     places: &'a [u32],

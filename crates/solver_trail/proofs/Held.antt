@@ -34,6 +34,13 @@ at_push_before entries s d k h = get_or_append_left entries (s ∷ []) d k h
 pub at_push_end : (entries : List SetLiteral) (s d : SetLiteral) (k : ℕ) → k ≡ length entries → get_or (entries ++ s ∷ []) k d ≡ s
 at_push_end entries s d k e = get_or_push entries s d k (sym e)
 
+not_differs : (b : Bool) → b ≡ not b → ⊥
+not_differs true e = let w : ◌≡◌ {A = Bool} true false = e in cc
+not_differs false e = let w : ◌≡◌ {A = Bool} false true = e in cc
+
+pub opposite_differs : (l : Literal) → l ≡ opposite l → ⊥
+opposite_differs l e = not_differs l.positive (ap (λ (m : Literal). m.positive) e)
+
 pub not_both : (a : Assignment) (l : Literal) → IsTrail a → Contains (assigned_literals a) l → Contains (assigned_literals a) (opposite l) → ⊥
 not_both a l trail one two =
     let j = place_of a.literals l one in
@@ -43,14 +50,10 @@ not_both a l trail one two =
     elim (cases_lt j.0 k.0) [
       | inl less ↦ trail.once j.0 k.0 no_literal less k.1 variables
       | inr le ↦ elim (cases_eq j.0 k.0) [
-        | inl same ↦ signs l.positive (ap (λ (m : Literal). m.positive) (sym (j.2 no_literal) ∙ (ap (λ n. (get_or a.literals n no_literal).literal) same ∙ k.2 no_literal)))
+        | inl same ↦ opposite_differs l (sym (j.2 no_literal) ∙ (ap (λ n. (get_or a.literals n no_literal).literal) same ∙ k.2 no_literal))
         | inr ne ↦ trail.once k.0 j.0 no_literal (omega arith) j.1 (sym variables)
       ]
     ]
-  where
-    signs : (b : Bool) → b ≡ not b → ⊥
-    signs true e = cc
-    signs false e = cc
 
 -- ---- whether a literal is true
 

@@ -8,6 +8,7 @@ use Rattle.std.proofs.lemmas.List.{length-set, length_push, get_or-set_same, get
 use Rattle.clause_pool.specs.Literal.{Literal, pos_literal}
 use Rattle.clause_pool.specs.LiteralCode.{code_of}
 use Rattle.solver_trail.specs.Watches.{watched, IsChain, IsWatchAmong, AreListedOnce, IsListOf, AreWatchesListed, HasLastWatch, firsts_with, nexts_with, head_of}
+use Rattle.solver_trail.proofs.Pairs.{watched_there, watched_elsewhere}
 
 -- ---- chains
 
@@ -156,12 +157,6 @@ module _ {firsts nexts : List (Option ℕ)} {literals : List Literal} (h : AreWa
 -- ---- a watch is put to the front of a list
 
 module _ (literals : List Literal) (i : ℕ) (within : i < length literals) (l : Literal) where
-  same : (m : ℕ) → m ≢ i → watched (set literals i l) m ≡ watched literals m
-  same m ne = get_or-set_other literals i m l (pos_literal 0) ne
-
-  at_it : watched (set literals i l) i ≡ l
-  at_it = get_or-set_same literals i l (pos_literal 0) within
-
   size : length (set literals i l) ≡ length literals
   size = length-set literals i l
 
@@ -173,11 +168,11 @@ module _ (literals : List Literal) (i : ℕ) (within : i < length literals) (l :
         → (m < length (set literals i l)) × (code_of (watched (set literals i l) m) ≡ c) × ¬ IsWatchAmong rest m
     owned_still list m there =
         let o = list.owned m there in
-        (omega (arith, o.0, size), ap code_of (same m (λ e. new list (subst (IsWatchAmong list.members) e there))) ∙ o.1, λ later. o.2 (inr later))
+        (omega (arith, o.0, size), ap code_of (watched_elsewhere literals i l m (λ e. new list (subst (IsWatchAmong list.members) e there))) ∙ o.1, λ later. o.2 (inr later))
 
     whole_still : {c : ℕ} (list : IsListOf firsts nexts literals (i ∷ rest) c) (m : ℕ) → m ≢ i → m < length (set literals i l)
         → code_of (watched (set literals i l) m) ≡ c → IsWatchAmong list.members m ⊎ IsWatchAmong rest m
-    whole_still list m ne less is = elim (list.whole m (omega (arith, less, size)) (ap code_of (sym (same m ne)) ∙ is)) [
+    whole_still list m ne less is = elim (list.whole m (omega (arith, less, size)) (ap code_of (sym (watched_elsewhere literals i l m ne)) ∙ is)) [
       | inl there ↦ inl there
       | inr out ↦ elim out [ inl e ↦ absurd (ne (sym e)) | inr later ↦ inr later ]
     ]
@@ -192,7 +187,7 @@ module _ (literals : List Literal) (i : ℕ) (within : i < length literals) (l :
             (chain_set nexts (get_or firsts c None) list.members i (head_of firsts l) list.chain (new list));
         apart = list.apart;
         owned = owned_still list;
-        whole = λ m less is. whole_still list m (λ e. other (sym is ∙ (ap (λ n. code_of (watched (set literals i l) n)) e ∙ ap code_of at_it))) less is;
+        whole = λ m less is. whole_still list m (λ e. other (sym is ∙ (ap (λ n. code_of (watched (set literals i l) n)) e ∙ ap code_of (watched_there literals i l within)))) less is;
       },
       refl,
     )
@@ -219,7 +214,7 @@ module _ (literals : List Literal) (i : ℕ) (within : i < length literals) (l :
                 );
                 apart = (new list, list.apart);
                 owned = λ m there. elim there [
-                  | inl is ↦ subst (λ n. (n < length (set literals i l)) × (code_of (watched (set literals i l) n) ≡ c) × ¬ IsWatchAmong rest n) is (omega (arith, within, size), ap code_of at_it ∙ sym e, not_again)
+                  | inl is ↦ subst (λ n. (n < length (set literals i l)) × (code_of (watched (set literals i l) n) ≡ c) × ¬ IsWatchAmong rest n) is (omega (arith, within, size), ap code_of (watched_there literals i l within) ∙ sym e, not_again)
                   | inr later ↦ owned_still list m later
                 ];
                 whole = λ m less is. elim (cases_eq m i) [

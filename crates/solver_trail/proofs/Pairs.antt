@@ -27,26 +27,26 @@ partner_odd n = grind (arith, nat_tests)
 
 -- ---- one watches another literal
 
+pub watched_there : (literals : List Literal) (i : ℕ) (l : Literal) → i < length literals → watched (set literals i l) i ≡ l
+watched_there literals i l within = get_or-set_same literals i l (pos_literal 0) within
+
+pub watched_elsewhere : (literals : List Literal) (i : ℕ) (l : Literal) (m : ℕ) → m ≢ i → watched (set literals i l) m ≡ watched literals m
+watched_elsewhere literals i l m ne = get_or-set_other literals i m l (pos_literal 0) ne
+
 module _ (P : ℕ → Literal → Literal → Type 0) (literals : List Literal) (i : ℕ) (l : Literal) (within : i < length literals) where
-  here : watched (set literals i l) i ≡ l
-  here = get_or-set_same literals i l (pos_literal 0) within
-
-  same : (m : ℕ) → m ≢ i → watched (set literals i l) m ≡ watched literals m
-  same m ne = get_or-set_other literals i m l (pos_literal 0) ne
-
   pub each_set : P i l (watched literals (partner i)) → P (partner i) (watched literals (partner i)) l
       → ((m : ℕ) → m < length literals → m ≢ i → m ≢ partner i → P m (watched literals m) (watched literals (partner m)))
       → EachWatch P (set literals i l)
   each_set mine its rest m less = elim (cases_eq m i) [
     | inl e ↦ subst (λ k. P k (watched (set literals i l) k) (watched (set literals i l) (partner k))) (sym e)
-        (subst (λ x. P i x (watched (set literals i l) (partner i))) (sym here) (subst (P i l) (sym (same (partner i) (partner_apart i))) mine))
+        (subst (λ x. P i x (watched (set literals i l) (partner i))) (sym (watched_there literals i l within)) (subst (P i l) (sym (watched_elsewhere literals i l (partner i) (partner_apart i))) mine))
     | inr ne ↦ elim (cases_eq m (partner i)) [
       | inl e ↦ subst (λ k. P k (watched (set literals i l) k) (watched (set literals i l) (partner k))) (sym e)
-          (subst (λ x. P (partner i) x (watched (set literals i l) (partner (partner i)))) (sym (same (partner i) (partner_apart i)))
-          (subst (P (partner i) (watched literals (partner i))) (sym (ap (watched (set literals i l)) (partner_back i) ∙ here)) its))
+          (subst (λ x. P (partner i) x (watched (set literals i l) (partner (partner i)))) (sym (watched_elsewhere literals i l (partner i) (partner_apart i)))
+          (subst (P (partner i) (watched literals (partner i))) (sym (ap (watched (set literals i l)) (partner_back i) ∙ watched_there literals i l within)) its))
       | inr other ↦
           let apart : partner m ≢ i = λ e. other (sym (partner_back m) ∙ ap partner e) in
-          subst (λ x. P m x (watched (set literals i l) (partner m))) (sym (same m ne)) (subst (P m (watched literals m)) (sym (same (partner m) apart)) (rest m (omega (arith, less, length-set literals i l)) ne other))
+          subst (λ x. P m x (watched (set literals i l) (partner m))) (sym (watched_elsewhere literals i l m ne)) (subst (P m (watched literals m)) (sym (watched_elsewhere literals i l (partner m) apart)) (rest m (omega (arith, less, length-set literals i l)) ne other))
     ]
   ]
 

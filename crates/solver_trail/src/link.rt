@@ -5,7 +5,7 @@ ghost use Rattle.std.specs.Prelude.{◌≡◌, ◌+◌, ◌<◌, ◌^◌, None, 
 use std::marker::Model;
 
 /// The number of the next watch, or none, in four bytes.
-#[derive(Clone, Copy)]
+#[derive(Clone, Copy, Debug)]
 pub(crate) struct Link {
     // 0 for none, else the number of the watch plus one
     code: u32,

@@ -17,7 +17,7 @@ use crate::watches::{Watches, partner};
 use clause_pool::{Lit, Pool};
 
 /// The numbers of the attached clauses, in the order of attaching.
-#[derive(Drop)]
+#[derive(Debug, Drop)]
 pub(crate) struct Attached {
     /// The numbers of clauses of fewer than two literals, which watch nothing.
     pub(crate) short: Vec<u32>,

@@ -11,7 +11,7 @@ use std::alloc::{AllocError, Global};
 use std::marker::Model;
 
 /// A literal that is set, its level, and the number of the clause that forced it, or none if it was decided.
-#[derive(Clone, Copy)]
+#[derive(Clone, Copy, Debug)]
 pub(crate) struct SetLiteral {
     pub(crate) literal: Lit,
     pub(crate) level: u32,
@@ -19,14 +19,14 @@ pub(crate) struct SetLiteral {
 }
 
 /// The sign with which a variable is set, and the place of its literal among the set ones.
-#[derive(Clone, Copy)]
+#[derive(Clone, Copy, Debug)]
 pub(crate) struct Slot {
     positive: bool,
     place: u32,
 }
 
 /// The set literals of variables 1 and up, as a stack. The slots are by variable; slot 0 belongs to no variable.
-#[derive(Drop)]
+#[derive(Debug, Drop)]
 pub(crate) struct SetLiterals {
     variables: u32,
     level: u32,

@@ -16,7 +16,7 @@ use std::marker::Model;
 
 /// What unit propagation ends with: each attached clause has a true literal or two unset ones (`Quiet`), or all
 /// literals of the attached clause of this number are false (`Conflict`).
-#[derive(Clone, Copy, PartialEq, Eq)]
+#[derive(Clone, Copy, Debug, PartialEq, Eq)]
 pub enum Propagated {
     Quiet,
     Conflict(u32),
@@ -26,6 +26,7 @@ pub enum Propagated {
 /// numbers of the attached clauses, over which propagation goes. The clauses themselves are in a pool.
 ///
 /// Variables are numbered from 1. Each level above 0 begins with its decided literal.
+#[derive(Debug)]
 pub struct Trail {
     set: SetLiterals,
     attached: Attached,

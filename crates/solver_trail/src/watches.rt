@@ -10,7 +10,7 @@ use clause_pool::Lit;
 use std::alloc::{AllocError, Global};
 
 /// A watch of a clause, in eight bytes.
-#[derive(Clone, Copy)]
+#[derive(Clone, Copy, Debug)]
 pub(crate) struct Watch {
     /// The literal that is watched.
     pub(crate) literal: Lit,
@@ -21,7 +21,7 @@ pub(crate) struct Watch {
 /// The watches of clauses, two for each. A watch is a number, and those of the k-th clause are 2 k and 2 k + 1.
 ///
 /// The watches of a literal are a linked list, so that a watch moves to another literal without allocating memory.
-#[derive(Drop)]
+#[derive(Debug, Drop)]
 pub(crate) struct Watches {
     /// The watches, by number.
     pub(crate) watches: Vec<Watch>,

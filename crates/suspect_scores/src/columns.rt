@@ -12,7 +12,7 @@ use net_model::AnswerRows;
 use std::alloc::{AllocError, Global};
 
 /// Rows of bits, one for each position, with a bit for each line of a log.
-#[derive(Drop)]
+#[derive(Debug, Drop)]
 pub struct LogColumns {
     /// Where an observed bit differs from that of number 0.
     pub wrong: AnswerRows,

@@ -2,6 +2,7 @@
 
 ghost use Rattle.std.specs.Prelude.{◌≡◌, ◌<◌, ◌++◌, ◌∷◌, [], length, IfOk, OnOk};
 ghost use Rattle.std.specs.String.{string_bytes};
+ghost use Rattle.net_model.specs.Ascii.{line_feed};
 ghost use Rattle.dict_rows.specs.AnswerTable.{Answers, answer_to};
 ghost use Rattle.dict_rows.specs.Entries.{answers_of};
 ghost use Rattle.table_dicts.specs.Setting.{IsScored, AreAnswersAt};
@@ -38,7 +39,7 @@ fn log_text(alloc: Global, free: &AnswerTable) -> Result<Vec<u8>, AllocError>
 fn push_line(text: &mut String, free: &AnswerTable, pattern: u32) -> Result<(), AllocError>
     requires pattern { pattern < length free.now.rows }
     requires some { 0 < free.now.numbers }
-    ensures { OnOk result (string_bytes text.new ≡ string_bytes text.old ++ (log_line pattern (answer_to free.now pattern 0) ++ 10 ∷ [])) }
+    ensures { OnOk result (string_bytes text.new ≡ string_bytes text.old ++ (log_line pattern (answer_to free.now pattern 0) ++ line_feed ∷ [])) }
 {
     write!(text, "{pattern} ")?;
     push_bits(text, free.positions() as usize, |position| {

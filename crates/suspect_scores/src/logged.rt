@@ -13,7 +13,7 @@ use std::alloc::{AllocError, Global};
 use table_dicts::{Setting, number_answers_at};
 
 /// The pattern of each line of a log, and its marks by line and by position.
-#[derive(Drop)]
+#[derive(Debug, Drop)]
 pub struct Logged {
     pub patterns: Vec<Vector>,
     pub marks: LogMarks,

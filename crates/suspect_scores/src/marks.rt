@@ -14,7 +14,7 @@ use std::alloc::{AllocError, Global};
 use table_dicts::AnswerTable;
 
 /// Rows of bits, one for each line of a log, with a bit for each position.
-#[derive(Drop)]
+#[derive(Debug, Drop)]
 pub struct LogMarks {
     /// What number 0 answers.
     pub free: AnswerRows,

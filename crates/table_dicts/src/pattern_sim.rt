@@ -15,6 +15,7 @@ use std::alloc::{AllocError, Global};
 use word_sim::{Block, GoodSim, LANES, Lanes};
 
 /// A circuit with its faults, a block of patterns, and the simulators of the circuit without a fault and with one.
+#[derive(Debug)]
 pub struct PatternSim<'a> {
     pub subject: &'a Subject<'a>,
     pub block: Block,

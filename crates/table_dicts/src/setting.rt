@@ -7,7 +7,7 @@ use fault_collapse::Subject;
 use net_model::Vectors;
 
 /// A circuit with its faults, patterns, and the classes of these patterns. Logs can also be scored by other classes.
-#[derive(Clone, Copy)]
+#[derive(Clone, Copy, Debug)]
 pub struct Setting<'a> {
     pub subject: &'a Subject<'a>,
     pub patterns: &'a Vectors,

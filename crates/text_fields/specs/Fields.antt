@@ -1,6 +1,7 @@
 -- Fields of a line of text: numbers and bits as digits, and texts that are cut at a byte.
 use Rattle.std.specs.Prelude.{◌≡◌, ℕ, ◌<◌, ◌^◌, ◌⊎◌, Bool, List, ◌∷◌, ◌++◌, map, length, ◌==◌, Contains}
 use Rattle.net_model.specs.Answer.{bit_at}
+use Rattle.net_model.specs.Ascii.{digit_zero, digit_one}
 use Rattle.net_model.specs.BitText.{bit_digit, bits_text}
 
 -- a list of bytes
@@ -13,7 +14,7 @@ IsNumber n = n < 2 ^ 32
 
 -- the bits of digits
 abbrev pub digit_bits : Text → List Bool
-digit_bits digits = map (λ digit. digit == 49) digits
+digit_bits digits = map (λ digit. digit == digit_one) digits
 
 -- There are `count` bits, and at the place of each `answers` allows no other bit.
 pub record AreBitsOf (answers : ℕ → Bool → Type 0) (count : ℕ) (bits : List Bool) : Type 0 where
@@ -22,7 +23,7 @@ pub record AreBitsOf (answers : ℕ → Bool → Type 0) (count : ℕ) (bits : L
 
 -- The byte is the digit of a bit.
 abbrev pub IsDigit : ℕ → Type 0
-IsDigit byte = (byte ≡ 48) ⊎ (byte ≡ 49)
+IsDigit byte = (byte ≡ digit_zero) ⊎ (byte ≡ digit_one)
 
 -- The digits are those of these bits.
 abbrev pub AreDigitsOf : List Bool → Text → Type 0

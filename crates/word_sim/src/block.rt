@@ -11,7 +11,7 @@ use std::alloc::{AllocError, Global};
 use std::marker::Model;
 
 /// Vectors that are simulated at once, at most one for each lane.
-#[derive(Drop)]
+#[derive(Debug, Drop)]
 pub struct Block {
     pub(crate) rows: Vec<Lanes>,
     pub(crate) live: u32,

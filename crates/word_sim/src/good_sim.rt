@@ -15,7 +15,7 @@ use std::alloc::{AllocError, Global};
 use std::marker::Model;
 
 /// The bits of all lines of a circuit without a fault, a lane for each vector of the block that was run last.
-#[derive(Drop)]
+#[derive(Debug, Drop)]
 pub struct GoodSim<'a> {
     circuit: &'a Circuit,
     rows: Vec<Lanes>,

@@ -7,6 +7,7 @@ ghost use Rattle.net_model.specs.Answer.{bit_at};
 ghost use Rattle.net_model.specs.Rows.{bit_of};
 
 use net_model::{Fold, low_bits, with_bit};
+use std::fmt;
 use std::marker::Model;
 use std::simd::u64x4;
 
@@ -35,6 +36,14 @@ impl Model for Lanes {
     ghost inverse = { λ bits. record { words = words_of bits } };
 
     ghost inverse_ok = { λ l h. λ i. record { words = words_of-bits_of l h i } };
+}
+
+// Written by hand, since `u64x4` has no `Debug`.
+impl fmt::Debug for Lanes {
+    fn fmt<W: fmt::Write>(&self, f: &mut fmt::Formatter<W>) -> fmt::Result {
+        let words = self.words.to_array();
+        write!(f, "Lanes({words:?})")
+    }
 }
 
 impl Lanes {

@@ -28,7 +28,7 @@ const COUNTING: [u64; 6] = [
 /// The stream of vectors, in blocks of 64. In the first block the first six sources count: each has its own binary
 /// digit of the vector's number. All other words are those of the generator SplitMix64 (Steele, Lea and Flood, 2014)
 /// with the seed 0, by block and then source.
-#[derive(Drop)]
+#[derive(Debug, Drop)]
 pub struct Stream {
     rng: SplitMix64,
     sources: u32,

@@ -22,12 +22,12 @@ pub(crate) fn lit(number: i32) -> Lit {
     Lit::new(number.unsigned_abs().clamp(1, 100), number > 0)
 }
 
-/// A chain: the literal at which its clause is fresh, if it has one, the number of the first clause, and the literals
-/// and clauses of the steps.
+/// A chain: the literal that it names, if it names one, the number of the first clause, and the literals and clauses of
+/// the steps.
 pub(crate) type Linked = (Option<i32>, u32, &'static [(i32, u32)]);
 
-// How many clauses may be learned, the chains of a log, and the refusal, or none. If the first chain has a literal, the
-// log is one that spends its budget, else a refutation.
+// How many clauses may be learned, the chains of a log, and the refusal, or none. If the first chain names a literal,
+// the log is one that spends its budget, else a refutation.
 type Judged = (u16, &'static [Linked], Option<(RefusalKind, u64)>);
 
 const REFUTATION: &[(i32, u32)] = &[(1, 3), (2, 4), (3, 8), (-5, 11), (-4, 6)];

@@ -1,5 +1,6 @@
 use Rattle.std.proofs.Common.{◌≡◌, ◌∙◌, ◌<◌, ℕ, Bool, List, [], length, get_or, sym, arith}
 use Rattle.std.proofs.lemmas.List.{get_or-map, get_or_default, length-map}
+use Rattle.std.specs.String.{string_bytes}
 use Rattle.compact_tests.specs.Keeping.{vectors_at}
 use Rattle.compact_tests.proofs.TextLemmas.{pattern_more}
 use Rattle.compact_tests.proofs.text.first_lines.Goals as goal
@@ -15,4 +16,4 @@ loop-place-preserved c =
     let inside : place < length patterns = c.requires at 0 h in
     let v = c.index-patterns-place.result in
     let is : v ≡ get_or (vectors_at patterns places) at [] = c.index-patterns-place.is ∙ (get_or_default patterns place v [] inside ∙ sym (get_or-map own places at 0 [] h)) in
-    pattern_more (vectors_at patterns places) at v (omega (arith, h, length-map places own)) is c.loop-place.invariant c.in_ok-push_pattern.ensures.ok
+    pattern_more (vectors_at patterns places) at v (omega (arith, h, length-map places own)) is (string_bytes c.push_head.new.text) c.loop-place.invariant c.in_ok-push_pattern.ensures.ok

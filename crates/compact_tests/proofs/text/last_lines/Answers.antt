@@ -6,4 +6,4 @@ use Rattle.compact_tests.proofs.text.last_lines.Goals as goal
 pub returns : goal.returns
 returns c =
     let t = c.args.classes.now in
-    last_text (class_records t.births) (member_records (zip t.class_of c.args.marks.now)) c.new-text.ensures.bytes c.in_ok-push_classes.ensures.ok c.in_ok-push_members.ensures.ok c.in_ok-push_str.ensures.bytes
+    last_text (class_records t.births) (member_records (zip t.class_of c.args.marks.now)) c.new-text.ensures.bytes c.in_ok-push_classes.ensures.ok c.in_ok-push_members.ensures.ok c.in_ok-push_line.ensures.ok

@@ -6,20 +6,20 @@ use Rattle.result_file.proofs.LineLemmas.{class_at_place, class_count_lines}
 use Rattle.dia_gen.proofs.WritingLemmas.{line_gathered, line_broken, lines_gathered}
 use Rattle.dia_gen.proofs.writing.write_classes.Goals as goal
 
-pub returns-in_err-add_class : goal.returns-in_err-add_class
-returns-in_err-add_class g c =
+pub returns-in_err-add_line : goal.returns-in_err-add_line
+returns-in_err-add_line g c =
     let births = c.args.classes.now.births in
     let k = c.loop-class.class in
     let test = c.loop-class-test.true in
     let p = err_from_is_err_and c.from_residual.result c.from_residual.ensures.1 in
-    rw (p.1, p.2) (line_broken (class_records births) k (Class k (get_or births k None)) (class_at_place births k (omega (arith, test, c.count-class-end.ensures.value))) c.loop-class.invariant c.in_err-add_class.ensures)
+    rw (p.1, p.2) (line_broken (class_records births) k (Class k (get_or births k None)) (class_at_place births k (omega (arith, test, c.count-class-end.ensures.value))) c.loop-class.invariant (rw c.born.ensures.value at c.in_err-add_line.ensures))
 
 pub loop-class-preserved : goal.loop-class-preserved
 loop-class-preserved g c =
     let births = c.args.classes.now.births in
     let k = c.loop-class.class in
     let test = c.loop-class-test.true in
-    line_gathered (class_records births) k (Class k (get_or births k None)) (class_at_place births k (omega (arith, test, c.count-class-end.ensures.value))) c.loop-class.invariant c.in_ok-add_class.ensures
+    line_gathered (class_records births) k (Class k (get_or births k None)) (class_at_place births k (omega (arith, test, c.count-class-end.ensures.value))) c.loop-class.invariant (rw c.born.ensures.value at c.in_ok-add_line.ensures)
 
 pub returns : goal.returns
 returns g c =

@@ -28,16 +28,16 @@ place g c =
     let test = c.loop-number-test.true in
     member_at_place (member_for c.args.classes.now c.args.marks.now) (length c.args.classes.now.class_of) c.loop-number.number (omega (arith, test, c.requires.numbers))
 
-pub returns-in_err-add_member : goal.returns-in_err-add_member
-returns-in_err-add_member g c =
-    let at = (goal.at.returns-in_err-add_member g c).After-unwrap-mark in
+pub returns-in_err-add_line : goal.returns-in_err-add_line
+returns-in_err-add_line g c =
+    let at = (goal.at.returns-in_err-add_line g c).After-unwrap-mark in
     let p = err_from_is_err_and c.from_residual.result c.from_residual.ensures.1 in
-    rw (p.1, p.2) (line_broken _ c.loop-number.number _ (place g at) c.loop-number.invariant (rw (mark_is g at) at c.in_err-add_member.ensures))
+    rw (p.1, p.2) (line_broken _ c.loop-number.number _ (place g at) c.loop-number.invariant (rw (mark_is g at, c.class_of.ensures.value) at c.in_err-add_line.ensures))
 
 pub loop-number-preserved : goal.loop-number-preserved
 loop-number-preserved g c =
     let at = (goal.at.loop-number-preserved g c).After-unwrap-mark in
-    line_gathered _ c.loop-number.number _ (place g at) c.loop-number.invariant (rw (mark_is g at) at c.in_ok-add_member.ensures)
+    line_gathered _ c.loop-number.number _ (place g at) c.loop-number.invariant (rw (mark_is g at, c.class_of.ensures.value) at c.in_ok-add_line.ensures)
 
 pub returns : goal.returns
 returns g c =

@@ -1,9 +1,8 @@
-use Rattle.std.proofs.Common.{◌≡◌, ◌<◌, ◌+◌, ◌-◌, ◌∙◌, ℕ, List, length, get_or, ap, arith, subst}
+use Rattle.std.proofs.Common.{◌≡◌, ◌<◌, ◌∙◌, ℕ, List, length, get_or, ap, arith, subst}
 use Rattle.std.specs.Prelude.{All}
 use Rattle.std.proofs.lemmas.List.Elements.{All-contains}
 use Rattle.net_model.specs.Circuit.{Circuit, IsCircuit, line_count}
 use Rattle.event_queue.specs.Pending.{IsLowest}
-use Rattle.event_queue.proofs.Marks.{pending_within, not_before}
 use Rattle.pair_scope.specs.Places.{IsShownBy, from_end}
 use Rattle.pair_scope.proofs.PlaceLemmas.{lines_count, line_inside}
 use Rattle.pair_scope.proofs.RelevantLemmas.{found_none, found_more, found_all}
@@ -26,26 +25,15 @@ loop-place-init c =
 pub line_back-line-requires : goal.line_back-line-requires
 line_back-line-requires c =
     let a = c.args.places.now in
-    let within = pending_within c.loop-place.back c.in-Some.place c.in-Some.ensures.cases.was in
-    omega (arith, within, c.loop-place.invariant.back_room, lines_count a.circuit.now a.wiring.now c.requires.placed.wired a.lines.items c.requires.placed.are)
+    omega (arith, c.in-Some.ensures.within, lines_count a.circuit.now a.wiring.now c.requires.placed.wired a.lines.items c.requires.placed.are)
 
 pub insert-requires : goal.insert-requires
 insert-requires c =
     let a = c.args.places.now in
     let place = c.in-Some.place in
-    let within = pending_within c.loop-place.back place c.in-Some.ensures.cases.was in
     let count : length a.lines.items ≡ line_count a.circuit.now = lines_count a.circuit.now a.wiring.now c.requires.placed.wired a.lines.items c.requires.placed.are in
-    let inside = line_inside a.circuit.now a.wiring.now c.requires.placed.wired a.lines.items c.requires.placed.are (from_end (length a.lines.items) place) (omega (arith, within, c.loop-place.invariant.back_room, count)) in
+    let inside = line_inside a.circuit.now a.wiring.now c.requires.placed.wired a.lines.items c.requires.placed.are (from_end (length a.lines.items) place) (omega (arith, c.in-Some.ensures.within, count)) in
     omega (arith, c.line_back-line.ensures, inside, c.loop-place.invariant.found_room)
-
-pub loop-place-smaller : goal.loop-place-smaller
-loop-place-smaller c =
-    let was = c.loop-place.invariant in
-    let count = line_count c.args.places.now.circuit.now in
-    let within = pending_within c.loop-place.back c.in-Some.place c.in-Some.ensures.cases.was in
-    let low = not_before c.loop-place.back c.loop-place.from c.in-Some.place was.so_far.low c.in-Some.ensures.cases.was in
-    let smaller : count - (c.in-Some.place + 1) < count - c.loop-place.from = omega (arith, within, was.back_room, low) in
-    smaller
 
 pub loop-place-preserved : goal.loop-place-preserved
 loop-place-preserved c =
@@ -57,7 +45,7 @@ loop-place-preserved c =
     let place = c.in-Some.place in
     let line = c.line_back-line.result in
     let lowest : IsLowest back taken place = c.in-Some.ensures.cases in
-    let inside : place < line_count circuit = omega (arith, pending_within back place lowest.was, was.back_room) in
+    let inside : place < line_count circuit = omega (arith, c.in-Some.ensures.within) in
     let count = lines_count circuit a.wiring.now c.requires.placed.wired a.lines.items c.requires.placed.are in
     let at : line ≡ get_or a.lines.items (from_end (line_count circuit) place) 0 = c.line_back-line.ensures ∙ ap (λ n. get_or a.lines.items (from_end n place) 0) count in
     record {

@@ -1,4 +1,4 @@
-use Rattle.std.proofs.Common.{◌≡◌, ◌<◌, ◌≤◌, ◌+◌, ◌-◌, ◌∙◌, ℕ, List, length, take, get_or, set, true, false, refl, sym, ap, arith, subst, inl, inr, length-take}
+use Rattle.std.proofs.Common.{◌≡◌, ◌<◌, ◌+◌, ◌∙◌, ℕ, List, length, take, get_or, set, true, false, refl, sym, ap, arith, subst, inl, inr, length-take}
 use Rattle.std.specs.Prelude.{Bool}
 use Rattle.std.proofs.lemmas.Bool.{cases_lt}
 use Rattle.std.proofs.lemmas.List.{get_or_past, get_or_read, length-set}
@@ -9,7 +9,6 @@ use Rattle.net_model.specs.Fault.{IsFaultOf}
 use Rattle.net_model.proofs.Elements.{length-filter-le}
 use Rattle.net_model.proofs.FirstChanged.{first_inside}
 use Rattle.event_queue.specs.Pending.{IsLowest}
-use Rattle.event_queue.proofs.Marks.{pending_within, not_before}
 use Rattle.pair_scope.specs.declared.listed.Listed.{Listed}
 use Rattle.pair_scope.specs.Listed.{IsBlank}
 use Rattle.pair_scope.proofs.PlaceLemmas.{lines_count, line_inside}
@@ -43,15 +42,13 @@ loop-place-init c =
 pub index-line-requires : goal.index-line-requires
 index-line-requires c =
     let a = c.args.places.now in
-    let within = pending_within c.loop-place.queue c.in-Some.place c.in-Some.ensures.cases.was in
-    omega (arith, within, c.loop-place.invariant.queue_room, lines_count a.circuit.now a.wiring.now c.requires.placed.wired a.lines.items c.requires.placed.are, a.lines.ok.0)
+    omega (arith, c.in-Some.ensures.within, lines_count a.circuit.now a.wiring.now c.requires.placed.wired a.lines.items c.requires.placed.are, a.lines.ok.0)
 
 pub wake_readers-requires-clause-line : goal.wake_readers-requires-clause-line
 wake_readers-requires-clause-line c =
     let a = c.args.places.now in
     let place = c.in-Some.place in
-    let within = pending_within c.loop-place.queue place c.in-Some.ensures.cases.was in
-    let inside : place < line_count a.circuit.now = omega (arith, within, c.loop-place.invariant.queue_room) in
+    let inside : place < line_count a.circuit.now = omega (arith, c.in-Some.ensures.within) in
     let count = lines_count a.circuit.now a.wiring.now c.requires.placed.wired a.lines.items c.requires.placed.are in
     let read = get_or_read a.lines.items place c.index-line.result.now (omega (arith, inside, count)) c.index-line.ensures 0 in
     let line = line_inside a.circuit.now a.wiring.now c.requires.placed.wired a.lines.items c.requires.placed.are place inside in
@@ -61,8 +58,7 @@ pub push-requires-clause-inside : goal.push-requires-clause-inside
 push-requires-clause-inside c =
     let a = c.args.places.now in
     let place = c.in-Some.place in
-    let within = pending_within c.loop-place.queue place c.in-Some.ensures.cases.was in
-    let inside : place < line_count a.circuit.now = omega (arith, within, c.loop-place.invariant.queue_room) in
+    let inside : place < line_count a.circuit.now = omega (arith, c.in-Some.ensures.within) in
     let count = lines_count a.circuit.now a.wiring.now c.requires.placed.wired a.lines.items c.requires.placed.are in
     let read = get_or_read a.lines.items place c.index-line.result.now (omega (arith, inside, count)) c.index-line.ensures 0 in
     let line = line_inside a.circuit.now a.wiring.now c.requires.placed.wired a.lines.items c.requires.placed.are place inside in
@@ -76,28 +72,16 @@ push-requires-clause-room c =
     let queue = c.loop-place.queue in
     let place = c.in-Some.place in
     let marks = c.loop-place.split.marks.items in
-    let within = pending_within queue place c.in-Some.ensures.cases.was in
-    let low : from ≤ place = not_before queue from place was.so_far.low c.in-Some.ensures.cases.was in
     let listed = was.so_far.listed (bit_at marks) (λ p h. refl) in
     omega (
       arith,
-      within,
-      low,
-      was.queue_room,
+      c.in-Some.ensures.above,
+      c.in-Some.ensures.within,
       was.room,
       ap length listed,
       length-filter-le (bit_at marks) (take from a.lines.items),
       length-take from a.lines.items,
     )
-
-pub loop-place-smaller : goal.loop-place-smaller
-loop-place-smaller c =
-    let was = c.loop-place.invariant in
-    let count = line_count c.args.places.now.circuit.now in
-    let within = pending_within c.loop-place.queue c.in-Some.place c.in-Some.ensures.cases.was in
-    let low = not_before c.loop-place.queue c.loop-place.from c.in-Some.place was.so_far.low c.in-Some.ensures.cases.was in
-    let smaller : count - (c.in-Some.place + 1) < count - c.loop-place.from = omega (arith, within, was.queue_room, low) in
-    smaller
 
 pub loop-place-preserved : goal.loop-place-preserved
 loop-place-preserved c =
@@ -113,11 +97,10 @@ loop-place-preserved c =
     let marks = c.loop-place.split.marks.items in
     let list = c.loop-place.split.numbers.items in
     let lowest : IsLowest queue taken place = c.in-Some.ensures.cases in
-    let inside : place < line_count circuit = omega (arith, pending_within queue place lowest.was, was.queue_room) in
-    let low : c.loop-place.from ≤ place = not_before queue c.loop-place.from place was.so_far.low lowest.was in
+    let inside : place < line_count circuit = omega (arith, c.in-Some.ensures.within) in
     let count = lines_count circuit a.wiring.now c.requires.placed.wired a.lines.items c.requires.placed.are in
     let read : line ≡ get_or a.lines.items place 0 = get_or_read a.lines.items place line (omega (arith, inside, count)) c.index-line.ensures 0 in
-    let more = split_more circuit f g a.wiring.now a.lines.items a.places.items c.requires.placed c.loop-place.from queue marks list was.so_far taken c.wake_readers.new.queue place line was.whole inside low read lowest c.wake_readers.ensures.woken in
+    let more = split_more circuit f g a.wiring.now a.lines.items a.places.items c.requires.placed c.loop-place.from queue marks list was.so_far taken c.wake_readers.new.queue place line was.whole inside c.in-Some.ensures.above read lowest c.wake_readers.ensures.woken in
     record {
       queue_room = c.wake_readers.ensures.room ∙ c.in-Some.ensures.room ∙ was.queue_room;
       whole = ap length c.push.ensures.marks ∙ length-set marks line true ∙ was.whole;

@@ -2,7 +2,6 @@ use Rattle.std.proofs.Common.{◌≡◌, ◌≢◌, ◌<◌, ◌≤◌, ◌∙�
 use Rattle.std.proofs.lemmas.List.{get_or-set_other}
 use Rattle.net_model.specs.Circuit.{line_count}
 use Rattle.event_queue.specs.Pending.{IsLowest, IsIdle}
-use Rattle.event_queue.proofs.Marks.{not_before, pending_within}
 use Rattle.pair_sets.specs.PairSet.{free_pairs, IsWithin}
 use Rattle.pair_sets.specs.CubeState.{set_at}
 use Rattle.pair_sets.specs.Events.{ArePairsSettled, AreLoose, gate_line_pairs}
@@ -12,7 +11,7 @@ use Rattle.pair_sets.proofs.TrailLemmas.{longer_more}
 use Rattle.pair_sets.proofs.events.follow.Goals as goal
 
 pub bounds-order-place : goal.bounds-order-place
-bounds-order-place c = omega (arith, pending_within c.loop-place.queue c.in-Some.place c.in-Some.ensures.cases.was, c.loop-place.invariant.queue, ap length c.order-order.ensures)
+bounds-order-place c = omega (arith, c.in-Some.ensures.within, c.loop-place.invariant.queue, ap length c.order-order.ensures)
 
 pub line_pairs-pairs-requires-clause-gate : goal.line_pairs-pairs-requires-clause-gate
 line_pairs-pairs-requires-clause-gate c =
@@ -40,7 +39,7 @@ settle-requires-clause-fewer c =
 
 pub overflow_add-from : goal.overflow_add-from
 overflow_add-from c =
-    omega (arith, few_places c.args.pair.now.circuit.now c.args.wiring.now c.requires.wiring, pending_within c.loop-place.queue c.in-Some.place c.in-Some.ensures.cases.was, c.loop-place.invariant.queue)
+    omega (arith, few_places c.args.pair.now.circuit.now c.args.wiring.now c.requires.wiring, c.in-Some.ensures.within, c.loop-place.invariant.queue)
 
 pub loop-place-preserved : goal.loop-place-preserved
 loop-place-preserved c =
@@ -55,7 +54,7 @@ loop-place-preserved c =
     let sets = c.loop-place.trail.sets.items in
     let taken = c.take_lowest.new.self in
     let lowest : IsLowest c.loop-place.queue taken place = c.in-Some.ensures.cases in
-    let within : place < length order = omega (arith, pending_within c.loop-place.queue place lowest.was, c.loop-place.invariant.queue) in
+    let within : place < length order = omega (arith, c.in-Some.ensures.within, c.loop-place.invariant.queue) in
     let at = ordered_line circuit wiring c.requires.wiring c.order-order.result.now c.order-order.ensures place within in
     let width : length sets ≡ line_count circuit = c.loop-place.invariant.longer.whole ∙ c.requires.width in
     let inside : line < length sets = omega (arith, width, at.1) in
@@ -79,9 +78,3 @@ loop-place-preserved c =
           ∙ get_or-set_other sets line source pairs free_pairs (let ne : source ≢ line = omega (arith, at.0) in ne)
           ∙ c.loop-place.invariant.sources source h;
     }
-
-pub loop-place-smaller : goal.loop-place-smaller
-loop-place-smaller c =
-    let place = c.in-Some.place in
-    let was = c.in-Some.ensures.cases.was in
-    omega (arith, not_before c.loop-place.queue c.loop-place.from place c.loop-place.invariant.low was, pending_within c.loop-place.queue place was, c.loop-place.invariant.queue)

@@ -3,7 +3,6 @@ use Rattle.std.specs.Prelude.{false, ◌||◌}
 use Rattle.net_model.specs.Scope.{is_split}
 use Rattle.fault_list.specs.Scope.{is_first_changed}
 use Rattle.event_queue.specs.Pending.{IsLowest}
-use Rattle.event_queue.proofs.Marks.{pending_within, not_before}
 use Rattle.pair_sets.proofs.EventLemmas.{ordered_line, none_before, waiting_line}
 use Rattle.net_model.proofs.Places.{few_places}
 use Rattle.pair_sets.proofs.SpreadLemmas.{none_marked, split_first, split_second, spread_none, spread_taken, spread_marks, spread_sets}
@@ -43,8 +42,7 @@ enter-requires-clause-width c =
 
 pub overflow_add-from : goal.overflow_add-from
 overflow_add-from c =
-    let within = pending_within c.loop-place.queue c.in-Some.place c.in-Some.ensures.cases.was in
-    omega (arith, few_places c.args.pair.now.circuit.now c.args.wiring.now c.requires.wiring, within, c.loop-place.invariant.width.queue)
+    omega (arith, few_places c.args.pair.now.circuit.now c.args.wiring.now c.requires.wiring, c.in-Some.ensures.within, c.loop-place.invariant.width.queue)
 
 pub loop-place-preserved : goal.loop-place-preserved
 loop-place-preserved c =
@@ -56,7 +54,7 @@ loop-place-preserved c =
     let taken = c.take_lowest.new.self in
     let was = c.loop-place.invariant in
     let lowest : IsLowest queue taken place = c.in-Some.ensures.cases in
-    let within : place < length wiring.order = omega (arith, pending_within queue place lowest.was, was.width.queue) in
+    let within : place < length wiring.order = omega (arith, c.in-Some.ensures.within, was.width.queue) in
     let at = ordered_line circuit wiring c.requires.wiring c.order-order.result.now c.order-order.ensures place within in
     record {
       from = omega arith;
@@ -76,20 +74,8 @@ returns-clause-cone c =
     spread_marks c.args.pair.now.circuit.now c.requires.wiring.circuit c.args.pair.now.f c.args.pair.now.g c.args.wiring.now c.requires.wiring c.loop-place.queue c.loop-place.cone c.loop-place.sets.items
     c.loop-place.invariant.spread c.in_default.ensures.cases.0 c.loop-place.invariant.width.marks
 
-pub take_lowest-requires : goal.take_lowest-requires
-take_lowest-requires c = c.loop-place.invariant.low
-
 pub bounds-order-place : goal.bounds-order-place
-bounds-order-place c = omega (arith, pending_within c.loop-place.queue c.in-Some.place c.in-Some.ensures.cases.was, c.loop-place.invariant.width.queue, ap length c.order-order.ensures)
-
-pub loop-place-smaller : goal.loop-place-smaller
-loop-place-smaller c =
-    let was = c.loop-place.invariant in
-    let count = length c.args.wiring.now.order in
-    let within = pending_within c.loop-place.queue c.in-Some.place c.in-Some.ensures.cases.was in
-    let low = not_before c.loop-place.queue c.loop-place.from c.in-Some.place was.low c.in-Some.ensures.cases.was in
-    let smaller : count - (c.in-Some.place + 1) < count - c.loop-place.from = omega (arith, within, was.width.queue, low) in
-    smaller
+bounds-order-place c = omega (arith, c.in-Some.ensures.within, c.loop-place.invariant.width.queue, ap length c.order-order.ensures)
 
 pub enter-requires-clause-split : goal.enter-requires-clause-split
 enter-requires-clause-split c =

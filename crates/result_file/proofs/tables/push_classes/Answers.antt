@@ -13,7 +13,7 @@ loop-class-preserved c =
     let births = c.args.classes.now.births in
     let k = c.loop-class.class in
     let test = c.loop-class-test.true in
-    text_more (class_records births) k (Class k (get_or births k None)) (class_at_place births k (omega (arith, test, c.count-class-end.ensures.value))) (string_bytes c.args.text.now) c.loop-class.invariant c.in_ok-push_class_line.ensures.ok
+    text_more (class_records births) k (Class k (get_or births k None)) (class_at_place births k (omega (arith, test, c.count-class-end.ensures.value))) (string_bytes c.args.text.now) c.loop-class.invariant (rw c.born.ensures.value at c.in_ok-push_line.ensures.ok)
 
 pub returns-clause-ok : goal.returns-clause-ok
 returns-clause-ok c =

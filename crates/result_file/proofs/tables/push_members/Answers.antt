@@ -17,7 +17,7 @@ loop-number-preserved c =
     let marks = c.args.marks.now in
     let k = c.loop-number.number in
     let test = c.loop-number-test.true in
-    text_more (member_records (zip t.class_of marks)) k (Member k (class_at t k) (get_or marks k Rep)) (marked_at_place t.class_of marks k (omega (arith, test, c.requires.whole)) (omega (arith, test))) (string_bytes c.args.text.now) c.loop-number.invariant c.in_ok-push_member_line.ensures.ok
+    text_more (member_records (zip t.class_of marks)) k (Member k (class_at t k) (get_or marks k Rep)) (marked_at_place t.class_of marks k (omega (arith, test, c.requires.whole)) (omega (arith, test))) (string_bytes c.args.text.now) c.loop-number.invariant (rw c.class_of.ensures.value at c.in_ok-push_line.ensures.ok)
 
 pub returns-clause-ok : goal.returns-clause-ok
 returns-clause-ok c =

@@ -24,18 +24,18 @@ returns-then-not-is_next_class c = rw c.refused-then-not-is_next_class.ensures (
   ((λ right. let h = (c.if-not-is_next_class.ensures c.args.subject.now is.seen is.is).1 right in cc), refl),
 )))
 
-pub add_class-requires-clause-classes : goal.add_class-requires-clause-classes
-add_class-requires-clause-classes c =
+pub overflow_add-self-2 : goal.overflow_add-self-2
+overflow_add-self-2 c =
     let is = c.requires.check.is in
-    class_few is c.requires.none c.args.number c.args.birth ((c.if-not-is_next_class.ensures c.args.subject.now is.seen is.is).0 refl)
+    omega (arith, class_few is c.requires.none c.args.number c.args.birth ((c.if-not-is_next_class.ensures c.args.subject.now is.seen is.is).0 refl))
 
-pub add_class-requires-clause-lines : goal.add_class-requires-clause-lines
-add_class-requires-clause-lines c = few_lines c.requires.check
+pub overflow_add-self : goal.overflow_add-self
+overflow_add-self c = omega (arith, few_lines c.requires.check)
 
 pub returns : goal.returns
-returns c = rw c.add_class.ensures (record {
+returns c = record {
   judged = λ text is short.
       class_taken is c.requires.none c.args.number c.args.birth c.requires.spelled short
       (let h = c.if-self-lt2.false in omega (arith, h)) (let h = c.if-self-ne0.false in omega (arith, h))
       ((c.if-not-is_next_class.ensures c.args.subject.now is.seen is.is).0 refl);
-})
+}

@@ -44,19 +44,19 @@ check-requires-clause-member c = member_inside c.requires.check.is c.requires.no
 pub check-requires-clause-partner : goal.check-requires-clause-partner
 check-requires-clause-partner c = partner_inside c.requires.check.is c.requires.none c.args.evidence.now (c.if-not-names_next.ensures.right refl)
 
-pub give-requires-clause-small : goal.give-requires-clause-small
-give-requires-clause-small c =
+pub overflow_add-self : goal.overflow_add-self
+overflow_add-self c =
     let is = c.requires.check.is in
     omega (arith, member_inside is c.requires.none c.args.evidence.now (c.if-not-names_next.ensures.right refl), is.is.few)
 
-pub give-requires-clause-lines : goal.give-requires-clause-lines
-give-requires-clause-lines c = few_lines c.requires.check
+pub overflow_add-self-in-Ok : goal.overflow_add-self-in-Ok
+overflow_add-self-in-Ok c = omega (arith, few_lines c.requires.check)
 
 pub returns-in-Ok : goal.returns-in-Ok
 returns-in-Ok c = record {
   judged = λ text is short.
       evidence_taken is c.requires.none c.args.evidence.now (c.if-not-names_next.ensures.right refl) c.requires.spelled short (c.if-not-is_body.ensures.0 refl) (c.if-not-has_right_roots.ensures.0 refl) c.in-Ok.ensures.right
-      c.give.new.self c.give.ensures.keeper c.give.ensures.marks c.give.ensures.from c.give.ensures.progress (rw c.give.ensures.evidence (record { circuit = c.in-Ok.ensures.circuit ∙ is.is.evidence.circuit; empty = c.in-Ok.ensures.emptied })) (rw c.give.ensures.waiting c.requires.none);
+      _ refl (rw c.mark_of-mark.ensures at c.give.ensures) refl refl (record { circuit = c.in-Ok.ensures.circuit ∙ is.is.evidence.circuit; empty = c.in-Ok.ensures.emptied }) c.requires.none;
 }
 
 pub refused-requires-in-Err-Refused : goal.refused-requires-in-Err-Refused

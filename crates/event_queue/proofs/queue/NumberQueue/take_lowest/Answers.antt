@@ -1,10 +1,10 @@
-use Rattle.std.proofs.Common.{◌≡◌, ◌<◌, ◌≤◌, ◌^◌, ◌*◌, ◌%◌, ◌∙◌, ℕ, List, length, get_or, arith, ap, sym, subst, w64}
+use Rattle.std.proofs.Common.{◌≡◌, ◌<◌, ◌≤◌, ◌^◌, ◌*◌, ◌+◌, ◌%◌, ◌∙◌, ℕ, List, length, get_or, arith, ap, sym, subst, w64}
 use Rattle.std.specs.Prelude.{bit_and}
 use Rattle.std.specs.Int.{bit_not, trailing_zeros}
 use Rattle.std.proofs.lemmas.List.{get_or_read, length-set}
 use Rattle.event_queue.specs.Pending.{IsEmpty}
 use Rattle.event_queue.proofs.Words.{AreNone, words_before, none_left, all_words_zero, small_set, zero_above, zero_below, fewer_bits}
-use Rattle.event_queue.proofs.Marks.{marks_count, none_is, low_digits, one_less}
+use Rattle.event_queue.proofs.Marks.{marks_count, none_is, low_digits, one_less, pending_within, not_before}
 use Rattle.event_queue.proofs.queue.NumberQueue.take_lowest.Goals as goal
 
 -- no number is left if the search came to the end
@@ -78,3 +78,9 @@ returns-clause-cases c =
 
 pub returns-clause-room : goal.returns-clause-room
 returns-clause-room c = marks_count c.self.inside.count _ ∙ sym (marks_count c.self.inside.count c.self.inside.words.items) ∙ ap length c.self.view_is
+
+pub returns-clause-above : goal.returns-clause-above
+returns-clause-above c = not_before c.args.self.now c.args.from (c.first_word-at.result * 64 + trailing_zeros w64 c.index-word.result.now) c.requires (returns-clause-cases c).was
+
+pub returns-clause-within : goal.returns-clause-within
+returns-clause-within c = pending_within c.args.self.now (c.first_word-at.result * 64 + trailing_zeros w64 c.index-word.result.now) (returns-clause-cases c).was

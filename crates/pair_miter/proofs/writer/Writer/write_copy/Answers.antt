@@ -17,7 +17,8 @@ use Rattle.pair_miter.specs.Marks.{IsOperand, AreHelpers}
 use Rattle.pair_miter.specs.Miter.{copy_clauses, gate_operands, tidy}
 use Rattle.pair_miter.specs.Rows.{variables}
 use Rattle.pair_miter.specs.Variables.{first_helper, variable_count}
-use Rattle.pair_miter.proofs.AddSteps.{adds_none, keeps_all, on_ok, writes_err}
+use Rattle.net_model.proofs.Errors.{on_ok}
+use Rattle.pair_miter.proofs.AddSteps.{adds_none, keeps_all, writes_err}
 use Rattle.pair_miter.proofs.Bounds.{few_variables_of}
 use Rattle.pair_miter.proofs.LineClauses.{clauses_of_stuck, clauses_of_source, rows_of_driven}
 use Rattle.pair_miter.proofs.Numbers.{variable_within, helpers_of_stuck, helpers_of_source, first_helper-below, few_of_parts}

@@ -6,22 +6,18 @@ use Rattle.std.proofs.lemmas.List.FromFn.{length-range_with_len}
 use Rattle.net_model.specs.Answer.{bit_at}
 use Rattle.net_model.proofs.Elements.{length-filter-le}
 use Rattle.event_queue.specs.Pending.{is_pending, IsLowest}
-use Rattle.event_queue.proofs.Marks.{pending_within, lowest_left, not_before}
+use Rattle.event_queue.proofs.Marks.{lowest_left}
 use Rattle.net_model.proofs.Filtered.{range_gap, range_next}
 use Rattle.pair_scope.proofs.listed.Listed.drain.Goals as goal
 
 pub push-requires-clause-room : goal.push-requires-clause-room
 push-requires-clause-room c =
     let was = c.loop-number.invariant in
-    let queue = c.loop-number.queue in
-    let number = c.in-Some.number in
     let earlier = range_with_len 0 c.loop-number.from in
-    let low : c.loop-number.from ≤ number = not_before queue c.loop-number.from number was.low c.in-Some.ensures.cases.was in
     omega (
       arith,
-      low,
-      pending_within queue number c.in-Some.ensures.cases.was,
-      was.queue_room,
+      c.in-Some.ensures.above,
+      c.in-Some.ensures.within,
       was.room,
       ap length was.numbers,
       length-filter-le (is_pending c.args.queue.now) earlier,
@@ -38,8 +34,8 @@ loop-number-preserved c =
     let number = c.in-Some.number in
     let all = c.args.queue.now in
     let lowest : IsLowest queue taken number = c.in-Some.ensures.cases in
-    let inside : number < length all = omega (arith, pending_within queue number lowest.was, was.queue_room) in
-    let low : from ≤ number = not_before queue from number was.low lowest.was in
+    let inside : number < length all = omega (arith, c.in-Some.ensures.within) in
+    let low : from ≤ number = c.in-Some.ensures.above in
     let passes : is_pending all number ≡ true = sym (was.next number low) ∙ lowest.was in
     let gap : (n : ℕ) → from ≤ n → n < number → is_pending all n ≡ false = λ n above h. sym (was.next n above) ∙ lowest.lower n h in
     let marked : c.push.new.self.marks.items ≡ set marks number true = c.push.ensures.marks in

@@ -8,7 +8,7 @@ use Rattle.std.proofs.lemmas.List.FromFn.{length-range_with_len}
 use Rattle.net_model.specs.Scope.{is_reached, reached_positions}
 use Rattle.net_model.proofs.Filtered.{range_gap, range_next}
 use Rattle.event_queue.specs.Pending.{is_pending, IsLowest}
-use Rattle.event_queue.proofs.Marks.{pending_within, lowest_left, not_before}
+use Rattle.event_queue.proofs.Marks.{lowest_left}
 use Rattle.pair_sets.specs.PairSet.{free_pairs}
 use Rattle.pair_sets.specs.CubeState.{position_pairs}
 use Rattle.pair_sets.specs.Tally.{kept_pairs, IsShownAt}
@@ -19,15 +19,12 @@ pub push_reserved-requires : goal.push_reserved-requires
 push_reserved-requires c =
     let circuit = c.args.pair.now.circuit.now in
     let test = is_reached circuit c.args.pair.now.f c.args.pair.now.g in
-    let at = c.in-Some.at in
     let was = c.loop-at.invariant in
-    let waiting = c.loop-at.self.waiting in
     let earlier = range_with_len 0 c.loop-at.from in
-    let low : c.loop-at.from ≤ at = not_before waiting c.loop-at.from at was.low c.in-Some.ensures.cases.was in
     omega (
       arith,
-      low,
-      pending_within waiting at c.in-Some.ensures.cases.was,
+      c.in-Some.ensures.above,
+      c.in-Some.ensures.within,
       was.queue_room,
       was.room,
       ap length was.reached,
@@ -52,8 +49,8 @@ loop-at-preserved c =
     let shown = c.loop-at.self.shown in
     let pairs = c.position_pairs.result in
     let lowest : IsLowest waiting taken at = c.in-Some.ensures.cases in
-    let inside : at < length circuit.positions = omega (arith, pending_within waiting at lowest.was, was.queue_room) in
-    let low : from ≤ at = not_before waiting from at was.low lowest.was in
+    let inside : at < length circuit.positions = omega (arith, c.in-Some.ensures.within, was.queue_room) in
+    let low : from ≤ at = c.in-Some.ensures.above in
     let passes : test at ≡ true = sym (was.next at low inside) ∙ lowest.was in
     let gap : (n : ℕ) → from ≤ n → n < at → test n ≡ false = λ n above h. sym (was.next n above (omega (arith, h, inside))) ∙ lowest.lower n h in
     let is : pairs ≡ kept_pairs circuit f g sets at = c.position_pairs.ensures ∙ sym (ap (λ b. if b then position_pairs circuit f g sets at else free_pairs) passes) in
@@ -120,21 +117,3 @@ loop-at-init c =
       before = λ at h. absurd (omega (arith, h));
       behind = λ at h. c.requires.blank.free at;
     }
-
-pub put-requires : goal.put-requires
-put-requires c = omega (arith, pending_within c.loop-at.self.waiting c.in-Some.at c.in-Some.ensures.cases.was, c.loop-at.invariant.queue_room, c.loop-at.invariant.whole)
-
-pub loop-at-smaller : goal.loop-at-smaller
-loop-at-smaller c =
-    let was = c.loop-at.invariant in
-    let count = length c.args.pair.now.circuit.now.positions in
-    let within = pending_within c.loop-at.self.waiting c.in-Some.at c.in-Some.ensures.cases.was in
-    let low = not_before c.loop-at.self.waiting c.loop-at.from c.in-Some.at was.low c.in-Some.ensures.cases.was in
-    let smaller : count - (c.in-Some.at + 1) < count - c.loop-at.from = omega (arith, within, was.queue_room, low) in
-    smaller
-
-pub position_pairs-requires-clause-position : goal.position_pairs-requires-clause-position
-position_pairs-requires-clause-position c = omega (arith, pending_within c.loop-at.self.waiting c.in-Some.at c.in-Some.ensures.cases.was, c.loop-at.invariant.queue_room)
-
-pub overflow_add-from : goal.overflow_add-from
-overflow_add-from c = omega (arith, pending_within c.loop-at.self.waiting c.in-Some.at c.in-Some.ensures.cases.was, c.loop-at.invariant.queue_room, c.requires.wiring.circuit.small)
