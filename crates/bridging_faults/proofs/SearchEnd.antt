@@ -11,6 +11,7 @@ use Rattle.net_model.specs.declared.fault.Fault.{Fault}
 use Rattle.net_model.specs.declared.fault.Fault.TheVariants.{Free}
 use Rattle.net_model.specs.FaultList.{faults, fault_numbered}
 use Rattle.net_model.proofs.Listed.{some_number}
+use Rattle.net_model.proofs.Ranges.{sum_by-range_more}
 use Rattle.dict_rows.specs.AnswerTable.{Answers, AreAnswers, answer_to}
 use Rattle.table_dicts.proofs.FailLemmas.{answer_is}
 use Rattle.ranked_diag.specs.Seen.{differing_bits}
@@ -18,7 +19,7 @@ use Rattle.ranked_diag.specs.PartialLog.{Line}
 use Rattle.suspect_scores.specs.Scores.{is_failing, failing}
 use Rattle.suspect_scores.specs.Scored.{count_to}
 use Rattle.suspect_scores.specs.Marks.{logged_line}
-use Rattle.suspect_scores.proofs.RangeSums.{one_of, sum_more, count_listed}
+use Rattle.suspect_scores.proofs.RangeSums.{one_of, count_listed}
 use Rattle.bridging_faults.specs.declared.best.Best.{Best}
 use Rattle.bridging_faults.specs.declared.bridge.Bridge.{Bridge}
 use Rattle.bridging_faults.specs.declared.line_rows.LineRows.{LineRows}
@@ -47,7 +48,7 @@ counted_some : (p : ℕ → Bool) (n : ℕ) → 0 < count_to p n → (k : ℕ) �
 counted_some p zero h = absurd (omega (arith, h))
 counted_some p (suc n) h =
     let more : suc n ≡ n + 1 = omega arith in
-    let step : count_to p (suc n) ≡ count_to p n + one_if (p n) = ap (count_to p) more ∙ sum_more (one_of p) n in
+    let step : count_to p (suc n) ≡ count_to p n + one_if (p n) = ap (count_to p) more ∙ sum_by-range_more (one_of p) n in
     elim (cases_Bool (p n)) [
       | inl on ↦ (n, omega arith, on)
       | inr off ↦
@@ -103,7 +104,7 @@ module _ (m : LineRows) (b : Bridge) where
   split_count (suc n) =
       let more : suc n ≡ n + 1 = omega arith in
       let fails = λ (k : ℕ). not (bit_at m.free k) in
-      let whole : count_to fails (suc n) ≡ count_to fails n + one_if (fails n) = ap (count_to fails) more ∙ sum_more (one_of fails) n in
+      let whole : count_to fails (suc n) ≡ count_to fails n + one_if (fails n) = ap (count_to fails) more ∙ sum_by-range_more (one_of fails) n in
       omega (arith, whole, split_count n, ap (explained_to m b) more, ap (left_to m b) more, explained_more m b n, left_more m b n, both_ways (fails n) (is_explained_at m b n))
 
 module _ (c : Circuit) (w : IsCircuit c) (patterns : List (List Bool)) (table : Answers) (lines : List Line) (m : LineRows) (are : AreLineRows c patterns lines m) (same : length m.free ≡ length lines)

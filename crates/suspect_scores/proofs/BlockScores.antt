@@ -2,7 +2,7 @@
 use Rattle.std.proofs.Common.{◌≡◌, ◌∙◌, ℕ, ◌+◌, ◌-◌, ◌*◌, ◌/◌, ◌%◌, ◌<◌, ◌≤◌, ◌^◌, Bool, true, false, not, cond, List, length, min, refl, sym, ap, arith, inl, inr}
 use Rattle.std.specs.Prelude.{sum_by, count_by, count_ones, nat_lt, ◌&&◌, ◌==◌}
 use Rattle.std.specs.List.{range_with_len}
-use Rattle.std.proofs.lemmas.Bool.{cases_lt}
+use Rattle.std.proofs.lemmas.Bool.{cases_lt, lt-ltb, le-ltb}
 use Rattle.std.proofs.lemmas.Bool.Decides.{nat_tests}
 use Rattle.std.proofs.lemmas.Nat.{div-mul-add, mod-mul-add, mul-le}
 use Rattle.net_model.specs.Answer.{bit_at}
@@ -31,12 +31,6 @@ pub lane_bit : (bits : ℕ) (row : List Bool) (word k : ℕ) → ((lane : ℕ) �
 lane_bit bits row word k is low h =
     let rest : (word * 64 + k) % 64 ≡ k = mod-mul-add word 64 k h in
     ap (bit_of bits) (sym rest) ∙ is (word * 64 + k) (omega (arith, low, h)) (div-mul-add word 64 k h)
-
-pub below : (k n : ℕ) → k < n → nat_lt k n ≡ true
-below k n h = grind (arith, nat_tests)
-
-pub not_below : (k n : ℕ) → n ≤ k → nat_lt k n ≡ false
-not_below k n h = grind (arith, nat_tests)
 
 pub zero_test : (n : ℕ) → not (nat_lt 0 n) ≡ (n == 0)
 zero_test n = grind (arith, nat_tests)
@@ -71,7 +65,7 @@ module _ (columns : LogColumns) (sim : FaultSim) (first lane lanes line : ℕ) (
   none_same : (k : ℕ) → lanes ≤ k → count_same k ≡ 0
   none_same k past =
       sum_none (one_of (λ p. is_same_lane columns.wrong sim line lane lanes p k)) 0 (length sim.circuit.positions)
-      (λ p low. ap (λ (b : Bool). cond {A = ℕ} (b && (row_bit columns.wrong (0 + p) (line + k) && not (bit_at (lanes_at sim (0 + p)) (lane + k)))) 1 0) (not_below k lanes past))
+      (λ p low. ap (λ (b : Bool). cond {A = ℕ} (b && (row_bit columns.wrong (0 + p) (line + k) && not (bit_at (lanes_at sim (0 + p)) (lane + k)))) 1 0) (le-ltb k lanes past))
 
   hit_is : (k : ℕ) → count_changed columns.wrong k ≡ (lane_score columns sim first (lane + k)).hit_bits
   unfolding lane_score score_to
@@ -79,7 +73,7 @@ module _ (columns : LogColumns) (sim : FaultSim) (first lane lanes line : ℕ) (
 
   missed_is : (k : ℕ) → k < lanes → count_same k ≡ (lane_score columns sim first (lane + k)).missed_bits
   unfolding lane_score score_to
-  missed_is k h = λ i. count_to (λ p. below k lanes h i && (row_bit columns.wrong p (at k i) && not (bit_at (lanes_at sim p) (lane + k)))) (length sim.circuit.positions)
+  missed_is k h = λ i. count_to (λ p. lt-ltb k lanes h i && (row_bit columns.wrong p (at k i) && not (bit_at (lanes_at sim p) (lane + k)))) (length sim.circuit.positions)
 
   false_is : (k : ℕ) → count_changed columns.right k ≡ (lane_score columns sim first (lane + k)).false_bits
   unfolding lane_score score_to
@@ -103,10 +97,10 @@ module _ (columns : LogColumns) (sim : FaultSim) (first lane lanes line : ℕ) (
             let s = lane_score columns sim first (lane + k) in
             (λ i. (nat_lt 0 (hit_is k i) && not (nat_lt 0 (missed_is k low i))) && not (nat_lt 0 (false_is k i)))
             ∙ ((λ i. (nat_lt 0 s.hit_bits && zero_test s.missed_bits i) && zero_test s.false_bits i)
-            ∙ (and_later (nat_lt 0 s.hit_bits) (s.missed_bits == 0) (s.false_bits == 0) ∙ ap (λ (b : Bool). b && does_explain s) (sym (below k lanes low))))
+            ∙ (and_later (nat_lt 0 s.hit_bits) (s.missed_bits == 0) (s.false_bits == 0) ∙ ap (λ (b : Bool). b && does_explain s) (sym (lt-ltb k lanes low))))
         | inr past ↦
             (λ i. (nat_lt 0 (none_changed columns.wrong k past h i) && not (nat_lt 0 (count_same k))) && not (nat_lt 0 (count_changed columns.right k)))
-            ∙ ap (λ (b : Bool). b && does_explain (lane_score columns sim first (lane + k))) (sym (not_below k lanes past))
+            ∙ ap (λ (b : Bool). b && does_explain (lane_score columns sim first (lane + k))) (sym (le-ltb k lanes past))
       ]
 
   -- two counts are the lanes that fit
@@ -120,7 +114,7 @@ module _ (columns : LogColumns) (sim : FaultSim) (first lane lanes line : ℕ) (
             (λ i. nat_lt k lanes && (not (misses.some k h i) && not (wrongs.some k h i)))
             ∙ ((λ i. nat_lt k lanes && (not (nat_lt 0 (missed_is k low i)) && not (nat_lt 0 (false_is k i))))
             ∙ (λ i. nat_lt k lanes && (zero_test s.missed_bits i && zero_test s.false_bits i)))
-        | inr past ↦ (λ i. not_below k lanes past i && (not (bit_of missed.some k) && not (bit_of wrong.some k))) ∙ ap (λ (b : Bool). b && meets_all s) (sym (not_below k lanes past))
+        | inr past ↦ (λ i. le-ltb k lanes past i && (not (bit_of missed.some k) && not (bit_of wrong.some k))) ∙ ap (λ (b : Bool). b && meets_all s) (sym (le-ltb k lanes past))
       ]
 
 -- ---- words one after another
@@ -141,12 +135,12 @@ module _ (score : ℕ → LineScore) where
   ones_are n lanes w is few fits =
       let test : ℕ → Bool = λ k. nat_lt k lanes && does_explain (score (n + k)) in
       one_word w.explained test fits is.explained
-      ∙ (sum_short (one_of test) lanes 64 few (λ k past h. ap (λ (b : Bool). cond {A = ℕ} (b && does_explain (score (n + k))) 1 0) (not_below k lanes past))
+      ∙ (sum_short (one_of test) lanes 64 few (λ k past h. ap (λ (b : Bool). cond {A = ℕ} (b && does_explain (score (n + k))) 1 0) (le-ltb k lanes past))
       ∙ count_shifted test (λ k. does_explain (score k)) 0 (0 + n) lanes
       (λ k h.
       let own : 0 + k ≡ k = omega arith in
       let place : n + k ≡ (0 + n) + k = omega arith in
-      ap test own ∙ (ap (λ (b : Bool). b && does_explain (score (n + k))) (below k lanes h) ∙ ap (λ (j : ℕ). does_explain (score j)) place)))
+      ap test own ∙ (ap (λ (b : Bool). b && does_explain (score (n + k))) (lt-ltb k lanes h) ∙ ap (λ (j : ℕ). does_explain (score j)) place)))
 
   joined : (f : ℕ → ℕ) (n lanes before more : ℕ) → before ≡ sum_by f (range_with_len 0 n) → more ≡ sum_by f (range_with_len n lanes) → before + more ≡ sum_by f (range_with_len 0 (n + lanes))
   joined f n lanes before more a b =
@@ -218,6 +212,6 @@ same_past sim count word lanes is low past = λ p lane hp from to. past p lane h
 
 pub lane_below : (count word lanes k : ℕ) → lanes ≡ min (count - word * 64) 64 → k < 64 → nat_lt k lanes ≡ nat_lt (word * 64 + k) count
 lane_below count word lanes k is h = elim (cases_lt k lanes) [
-  | inl low ↦ below k lanes low ∙ sym (below (word * 64 + k) count (omega (arith, low, is)))
-  | inr past ↦ not_below k lanes past ∙ sym (not_below (word * 64 + k) count (omega (arith, past, is, h)))
+  | inl low ↦ lt-ltb k lanes low ∙ sym (lt-ltb (word * 64 + k) count (omega (arith, low, is)))
+  | inr past ↦ le-ltb k lanes past ∙ sym (le-ltb (word * 64 + k) count (omega (arith, past, is, h)))
 ]

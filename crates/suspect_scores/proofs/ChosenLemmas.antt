@@ -11,6 +11,7 @@ use Rattle.net_model.specs.ClassTable.{ClassTable}
 use Rattle.net_model.specs.Rows.{row_at}
 use Rattle.dict_rows.specs.AnswerTable.{Answers}
 use Rattle.ranked_diag.specs.PartialLog.{Line}
+use Rattle.net_model.proofs.Ranges.{sum_by-range_more}
 use Rattle.suspect_scores.specs.declared.choices.Choice.{Choice}
 use Rattle.suspect_scores.specs.declared.choosing.Best.{Best}
 use Rattle.suspect_scores.specs.Scores.{is_failing, explains, explained_count}
@@ -19,22 +20,17 @@ use Rattle.suspect_scores.specs.Marks.{logged_line}
 use Rattle.suspect_scores.specs.Listed.{representatives}
 use Rattle.suspect_scores.specs.Covering.{Covers, IsCover, left_by}
 use Rattle.suspect_scores.specs.Chosen.{explained_by, left_count, AreAllLeft, IsWithout, count_at, IsBestOf, AreChosenFrom}
-use Rattle.suspect_scores.proofs.ScoreLemmas.{count_more}
-use Rattle.suspect_scores.proofs.RangeSums.{one_of, sum_more, count_shifted}
+use Rattle.suspect_scores.proofs.ScoreLemmas.{count_more, one_of_both}
+use Rattle.suspect_scores.proofs.RangeSums.{one_of, count_shifted}
 
 -- ---- what is left gets less
-
-split_one : (b e : Bool) → ◌≡◌ {A = ℕ} (cond (b && e) 1 0 + cond (b && not e) 1 0) (cond b 1 0)
-split_one true true = refl
-split_one true false = refl
-split_one false e = refl
 
 counts_split : (b e : ℕ → Bool) (n : ℕ) → count_to (λ k. b k && e k) n + count_to (λ k. b k && not (e k)) n ≡ count_to b n
 counts_split b e zero = refl
 counts_split b e (suc n) =
     let next : suc n ≡ n + 1 = omega arith in
-    let more : (p : ℕ → Bool) → count_to p (suc n) ≡ count_to p n + one_of p n = λ p. ap (count_to p) next ∙ sum_more (one_of p) n in
-    omega (arith, more (λ k. b k && e k), more (λ k. b k && not (e k)), more b, split_one (b n) (e n), counts_split b e n)
+    let more : (p : ℕ → Bool) → count_to p (suc n) ≡ count_to p n + one_of p n = λ p. ap (count_to p) next ∙ sum_by-range_more (one_of p) n in
+    omega (arith, more (λ k. b k && e k), more (λ k. b k && not (e k)), more b, one_of_both (b n) (e n), counts_split b e n)
 
 pub fewer_left : (row old new : List Bool) → IsWithout row old new → 0 < left_count row old → count_to (bit_at new) (length new) < count_to (bit_at old) (length old)
 unfolding left_count

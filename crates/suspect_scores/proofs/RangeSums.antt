@@ -18,12 +18,6 @@ sum_joined f a (suc m) n =
     let rest = sum_joined f (a + 1) m n ∙ (λ i. sum_by f (range_with_len (a + 1) m) + sum_by f (range_with_len (next i) n)) in
     (λ i. sum_by f (range_with_len a (more i))) ∙ omega (arith, sum_by-cons f a (range_with_len (a + 1) (m + n)), sum_by-cons f a (range_with_len (a + 1) m), rest)
 
--- one place more
-pub sum_more : (f : ℕ → ℕ) (n : ℕ) → sum_by f (range_with_len 0 (n + 1)) ≡ sum_by f (range_with_len 0 n) + f n
-sum_more f n =
-    let start : 0 + n ≡ n = omega arith in
-    sum_joined f 0 n 1 ∙ omega (arith, sum_by-cons f (0 + n) [], ap f start)
-
 -- values that agree sum to the same
 pub sum_shifted : (f g : ℕ → ℕ) (a b n : ℕ) → ((k : ℕ) → k < n → f (a + k) ≡ g (b + k)) → sum_by f (range_with_len a n) ≡ sum_by g (range_with_len b n)
 sum_shifted f g a b zero agree = refl

@@ -7,8 +7,6 @@ use Rattle.std.proofs.lemmas.List.{get_or_past, get_or-map, length-map}
 use Rattle.std.proofs.lemmas.List.Sums.{sum_by-cons}
 use Rattle.std.proofs.lemmas.List.Elements.{All-head, All-tail}
 use Rattle.net_model.specs.ClassTable.{ClassTable, class_table, class_at, representative}
-use Rattle.net_model.specs.Circuit.{Circuit}
-use Rattle.net_model.specs.PatternRows.{IsTableOf}
 use Rattle.net_model.proofs.OneAnswer.{one_rows}
 use Rattle.net_model.proofs.Listed.{some_number}
 use Rattle.class_refine.proofs.Pieces.{representative_lowest}
@@ -71,7 +69,7 @@ one_where p x = cond (p x) 1 0
 pub count_more : {X : Type 0} (p : X → Bool) (x : X) (xs : List X) → count_by p (x ∷ xs) ≡ one_where p x + count_by p xs
 count_more p x xs = sum_by-cons (one_where p) x xs
 
-one_of_both : (wrong change : Bool) → ◌≡◌ {A = ℕ} (cond (wrong && change) 1 0 + cond (wrong && not change) 1 0) (cond wrong 1 0)
+pub one_of_both : (wrong change : Bool) → ◌≡◌ {A = ℕ} (cond (wrong && change) 1 0 + cond (wrong && not change) 1 0) (cond wrong 1 0)
 one_of_both true true = refl
 one_of_both true false = refl
 one_of_both false change = refl

@@ -13,6 +13,7 @@ use Rattle.ranked_diag.specs.declared.partial.Seen.{Seen}
 use Rattle.ranked_diag.specs.declared.partial.Seen.TheVariants.{Zero, One, Unseen}
 use Rattle.ranked_diag.specs.Seen.{is_seen, differs, differing_bits}
 use Rattle.ranked_diag.specs.PartialLog.{Line}
+use Rattle.net_model.proofs.Ranges.{sum_by-range_more}
 use Rattle.suspect_scores.specs.declared.scoring.LineScore.{LineScore}
 use Rattle.suspect_scores.specs.declared.suspect.Suspect.{Suspect}
 use Rattle.suspect_scores.specs.Scores.{SeenBits, is_hit, is_missed, is_false, told_of, is_failing, failing, explains, explained_count, hit_bits, missed_bits, false_bits}
@@ -22,7 +23,7 @@ use Rattle.suspect_scores.specs.Columns.{HasBlockMore}
 use Rattle.suspect_scores.specs.Marks.{logged_line}
 use Rattle.suspect_scores.proofs.Tests.{both_true}
 use Rattle.suspect_scores.proofs.ScoreLemmas.{count_more, hit_or_missed}
-use Rattle.suspect_scores.proofs.RangeSums.{one_of, sum_more, count_listed}
+use Rattle.suspect_scores.proofs.RangeSums.{one_of, count_listed}
 
 -- ---- by the definitions
 
@@ -184,7 +185,7 @@ sum_block g h lines first (suc n) inside same =
     let line = logged_line lines at in
     let taken : sum_by g (take (first + suc n) lines) ≡ sum_by g (take at lines) + sum_by g (line ∷ []) =
     (λ i. sum_by g (take (next i) lines)) ∙ (ap (sum_by g) (take_more lines at (0, []) (omega (arith, inside))) ∙ sum_by-append g (take at lines) (line ∷ [])) in
-    let last : sum_by h (range_with_len 0 (suc n)) ≡ sum_by h (range_with_len 0 n) + h n = (λ i. sum_by h (range_with_len 0 (more i))) ∙ sum_more h n in
+    let last : sum_by h (range_with_len 0 (suc n)) ≡ sum_by h (range_with_len 0 n) + h n = (λ i. sum_by h (range_with_len 0 (more i))) ∙ sum_by-range_more h n in
     omega (arith, taken, before, last, same n (omega arith), sum_by-cons g line [])
 
 explained_lines : (table : Answers) (number : ℕ) (lines : List Line) → explained_count table number (failing table lines) ≡ count_by (λ line. is_failing table line && explains table number line) lines

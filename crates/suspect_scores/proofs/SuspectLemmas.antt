@@ -44,7 +44,7 @@ tests_tell false true false false u v e = let clash : ◌≡◌ {A = Bool} false
 tests_tell false false r s u v e = let clash : ◌≡◌ {A = Bool} false true = e in absurd (cc)
 
 -- of two numbers one is lower, or they are the same
-lower_or_same : (a b : ℕ) → a ≤ b → (a < b) ⊎ (a ≡ b)
+pub lower_or_same : (a b : ℕ) → a ≤ b → (a < b) ⊎ (a ≡ b)
 lower_or_same a b le = elim (cases_eq a b) [
   | inl same ↦ inr same
   | inr other ↦ elim (cases_lt a b) [ inl lt ↦ inl lt | inr ge ↦ absurd (other (omega (arith, le, ge))) ]

@@ -1,11 +1,11 @@
-use Rattle.std.proofs.Common.{◌≡◌, ◌∙◌, ℕ, List, [], Option, Some, None, Err, IsTrue, refl, sym, ap, subst}
-use Rattle.std.specs.Prelude.{◌+◌, IsSome, unwrap_or, drop}
+use Rattle.std.proofs.Common.{◌≡◌, ◌∙◌, ℕ, List, Some, Err, IsTrue, refl, sym, ap, subst}
+use Rattle.std.specs.Prelude.{◌+◌, drop}
 use Rattle.std.specs.Option.{option_map}
 use Rattle.std.specs.FinMap.{get}
 use Rattle.diag_shelf.specs.World.{State}
 use Rattle.diag_shelf.specs.declared.shelf.ShelfFault.TheVariants.{Failed, NoMemory}
 use Rattle.diag_shelf.specs.Calls.{Told, Opens, OnlyReads}
-use Rattle.diag_shelf.proofs.Steps.{facts_same, facts_after_read, reads_more}
+use Rattle.diag_shelf.proofs.Steps.{facts_same, facts_after_read, left_by, reads_more}
 use Rattle.result_file.specs.Refusal.{FileRefused}
 use Rattle.dia_check.specs.Left.{rest_of, ReadsRest}
 use Rattle.run_steps.specs.declared.ending.RunFault.{RunFault}
@@ -18,10 +18,6 @@ use Rattle.run_steps.proofs.Followed.{fault_read, over_said, read_after}
 use Rattle.run_steps.proofs.ReadLemmas.{some_text}
 use Rattle.run_steps.proofs.results.read_result.Goals as goal
 
-some_held : (o : Option (List ℕ)) → IsSome o → o ≡ Some (unwrap_or o [])
-some_held (Some x) some = refl
-some_held None some = cc
-
 -- What is known once the file is opened.
 record IsOpened (name : List ℕ) (a b : State) : Type 0 where
   opened : Told a b (Opens name)
@@ -31,7 +27,7 @@ only_reads : {name : List ℕ} {a b : State} (c : State) → IsOpened name a b �
 only_reads {name} {a} {b} c is others told = reads_more (is.opened told).only (others (is.tells ∙ told))
 
 held : {name : List ℕ} {a b : State} → IsOpened name a b → IsTrue a.tells → get a.world.files name ≡ Some (rest_of b.world)
-held {name} {a} {b} is told = let o = is.opened told in sym o.rest ∙ some_held b.world.rest o.found
+held {name} {a} {b} is told = let o = is.opened told in sym o.rest ∙ left_by b.world.rest o.found
 
 -- What is left after what the check read.
 left : {name : List ℕ} {a b : State} (c : State) → IsOpened name a b → Told b c ReadsRest → Told a c (IsLeftBehind kind.Result name)

@@ -1,8 +1,9 @@
 use Rattle.std.proofs.Common.{◌≡◌, ◌∙◌, ℕ, Bool, cond, [], length, ap, arith}
 use Rattle.net_model.specs.Answer.{bit_at}
 use Rattle.net_model.specs.Rows.{row_at}
+use Rattle.net_model.proofs.Ranges.{sum_by-range_more}
 use Rattle.suspect_scores.specs.Scored.{count_to, row_bits}
-use Rattle.suspect_scores.proofs.RangeSums.{one_of, sum_more, count_small}
+use Rattle.suspect_scores.proofs.RangeSums.{one_of, count_small}
 use Rattle.suspect_scores.proofs.ChosenLemmas.{one_small}
 use Rattle.suspect_scores.proofs.failed.count_bits.Goals as goal
 
@@ -19,7 +20,7 @@ pub loop-at-preserved : goal.loop-at-preserved
 loop-at-preserved c =
     let test : ℕ → Bool = bit_at (row_at c.args.rows.now c.args.row) in
     let one : c.as_one-count.result ≡ one_of test c.loop-at.at = c.as_one-count.ensures ∙ (λ i. cond {A = ℕ} (c.get.ensures i) 1 0) in
-    omega (arith, c.loop-at.invariant, one, sum_more (one_of test) c.loop-at.at)
+    omega (arith, c.loop-at.invariant, one, sum_by-range_more (one_of test) c.loop-at.at)
 
 pub returns : goal.returns
 unfolding row_bits

@@ -1,8 +1,9 @@
 use Rattle.std.proofs.Common.{◌≡◌, ◌∙◌, ℕ, Bool, cond, length, ap, arith}
 use Rattle.std.specs.Prelude.{nat_lt}
 use Rattle.net_model.specs.Rows.{row_at}
+use Rattle.net_model.proofs.Ranges.{sum_by-range_more}
 use Rattle.suspect_scores.specs.Scored.{count_to, row_bits}
-use Rattle.suspect_scores.proofs.RangeSums.{one_of, sum_more, count_small}
+use Rattle.suspect_scores.proofs.RangeSums.{one_of, count_small}
 use Rattle.suspect_scores.proofs.ChosenLemmas.{one_small}
 use Rattle.suspect_scores.proofs.failed.count_rows.Goals as goal
 
@@ -16,7 +17,7 @@ pub loop-row-preserved : goal.loop-row-preserved
 loop-row-preserved c =
     let test : ℕ → Bool = λ row. nat_lt 0 (row_bits (row_at c.args.rows.now row)) in
     let one : c.as_one-count.result ≡ one_of test c.loop-row.row = c.as_one-count.ensures ∙ (λ i. cond {A = ℕ} (nat_lt 0 (c.count_bits.ensures i)) 1 0) in
-    omega (arith, c.loop-row.invariant, one, sum_more (one_of test) c.loop-row.row)
+    omega (arith, c.loop-row.invariant, one, sum_by-range_more (one_of test) c.loop-row.row)
 
 pub returns : goal.returns
 returns c =
